@@ -1,8 +1,10 @@
 -- A pair that is tried on defects, one after another.
-use Rattle.std.proofs.Common.{◌≡◌, ℕ, zero, suc, ◌+◌, ◌<◌, ◌≤◌, List, [], ◌∷◌, length, Bool, true, false, inl, inr, refl, sym}
+use Rattle.std.proofs.Common.{◌≡◌, ℕ, zero, suc, ◌+◌, ◌<◌, ◌≤◌, ◌≢◌, List, [], ◌∷◌, length, Bool, true, false, inl, inr, refl, sym}
 use Rattle.std.proofs.Common.{◌∙◌, ap, subst, arith, Some, None, Option, get_or}
 use native.Mathlib.Decide.{ℕ_discrete}
-use Rattle.std.proofs.lemmas.List.{length-set}
+use Rattle.std.proofs.lemmas.Bool.{cases_lt}
+use Rattle.std.proofs.lemmas.List.{length-set, get_or_past}
+use Rattle.std.proofs.lemmas.Nat.Bits.{bit_at-zero}
 use Rattle.std.specs.Prelude.{slice_get, slice_set, IsSome}
 use Rattle.ca_net.specs.declared.trit.Trit.{Trit}
 use Rattle.ca_flat.specs.declared.chip_defect.ChipDefect.{ChipDefect}
@@ -16,12 +18,12 @@ use Rattle.ca_credit.specs.Defects.{Task, IsDefectAt}
 use Rattle.ca_credit.specs.Detection.{AreDetectedAlike, IsFirstOutput}
 use Rattle.ca_credit.specs.Table.{verdict_at, is_open, IsAfterPair}
 use Rattle.ca_credit.specs.code.Table.{one_if, CreditsOne}
-use Rattle.ca_credit.specs.Table.{CreditsPair}
+use Rattle.ca_credit.specs.Table.{CreditsIn, CreditsPair}
 use Rattle.ca_credit.specs.Detection.{IsAnswer}
 use Rattle.ca_credit.specs.ToTry.{IsNowhere}
-use Rattle.ca_credit.specs.code.Round.{IsOpenAt, AreOpen, IsRound, IsWithout, IsTried, TriesMore}
+use Rattle.ca_credit.specs.code.Round.{IsOpenAt, AreOpen, IsRound, IsWithout, IsTried, IsPartOf, TriesMore}
 use Rattle.ca_places.specs.declared.place_set.PlaceSet.{PlaceSet}
-use Rattle.ca_places.specs.PlaceSet.{Has, IsAsRoomy}
+use Rattle.ca_places.specs.PlaceSet.{Has, HoldsUpTo, IsAsRoomy, IsNext}
 use Rattle.std.proofs.lemmas.List.Elements.{Contains-get_or}
 use Rattle.std.proofs.Common.{◌↔◌, ◌/◌, ◌%◌, ◌⊎◌, slice_index}
 use Rattle.std.specs.Int.{bit_at}
@@ -158,20 +160,10 @@ stays_open table open_places left place verdict is may was within = record {
   left_room = is.left_room ∙ ap (λ n. n / 64 + 1) (sym (length-set table place verdict));
 }
 
--- all open places are left
-pub leaves_all : (table : List (Option Verdict)) (open_places left new : PlaceSet) → AreOpen table open_places left
-    → ((place : ℕ) → Has new place ↔ Has open_places place) → IsAsRoomy new left → AreOpen table open_places new
-leaves_all table open_places left new is same room = record {
-  are = is.are;
-  some = λ k has. (same k).0 has;
-  room = is.room;
-  left_room = room ∙ is.left_room;
-}
-
 -- nothing was tried
 pub tries_none : (task : Task) (pair : List Bool) (number : ℕ) (round : Round) → TriesMore task pair number 0 round round
 tries_none task pair number round = record {
-  tried = λ table before. before;
+  tried = λ start end table before. before;
   fewer = λ place has. has;
   stands = λ is. is;
   as_many = refl;
@@ -183,7 +175,7 @@ pub tries_then : (task : Task) (pair : List Bool) (number some more : ℕ) (a b 
     → TriesMore task pair number some a b → TriesMore task pair number more b c
     → TriesMore task pair number (some + more) a c
 tries_then task pair number some more a b c first second = record {
-  tried = λ table before. second.tried table (first.tried table before);
+  tried = λ start end table before. second.tried start end table (first.tried start end table before);
   fewer = λ place has. first.fewer place (second.fewer place has);
   stands = λ is. second.stands (first.stands is);
   as_many = second.as_many ∙ first.as_many;
@@ -201,18 +193,31 @@ pub tries_one : (task : Task) (pair : List Bool) (number place : ℕ) (given : B
     → CreditsOne task pair number place given old.verdicts.items new.verdicts.items
     → TriesMore task pair number (one_if given) old new
 tries_one task pair number place given old new was without stands one = record {
-  tried = λ table before. record {
+  tried = λ start end table before. record {
     as_many = one.as_many ∙ before.as_many;
-    done = λ k defect gone at. elim (ℕ_discrete k place) [
+    inside = λ k has. elim (ℕ_discrete k place) [
+      | yes e ↦ absurd (without.here (subst (Has new.left) e has))
+      | no differ ↦ before.inside k ((without.others k differ).0 has)
+    ];
+    done = λ k defect low high gone at. elim (ℕ_discrete k place) [
       | yes e ↦ subst (λ (j : ℕ). IsAfterPair (task.chip_of j) pair number defect (verdict_at table j) (verdict_at new.verdicts.items j)) (sym e)
           (subst (λ (v : Option Verdict). IsAfterPair (task.chip_of place) pair number defect v (verdict_at new.verdicts.items place))
           (before.others place was) (one.here defect (subst (λ (j : ℕ). IsDefectAt task j defect) e at)))
       | no differ ↦ subst (λ (v : Option Verdict). IsAfterPair (task.chip_of k) pair number defect (verdict_at table k) v)
-          (sym (one.others k differ)) (before.done k defect (λ has. gone ((without.others k differ).1 has)) at)
+          (sym (one.others k differ)) (before.done k defect low high (λ has. gone ((without.others k differ).1 has)) at)
     ];
     others = λ k has.
         let differ : k ≡ place → ⊥ = λ e. without.here (subst (Has new.left) e has) in
         one.others k differ ∙ before.others k ((without.others k differ).0 has);
+    outside = λ k out.
+        let here = before.inside place was in
+        let low = here.0 in
+        let high = here.1 in
+        let differ : k ≡ place → ⊥ = λ e. elim out [
+          | inl less ↦ absurd (omega arith)
+          | inr past ↦ absurd (omega arith)
+        ] in
+        one.others k differ ∙ before.outside k out;
   };
   fewer = λ k has. elim (ℕ_discrete k place) [
     | yes e ↦ subst (Has old.left) (sym e) was
@@ -241,15 +246,17 @@ past [] k d le = refl
 past (x ∷ xs) zero d le = absurd (omega arith)
 past (x ∷ xs) (suc k) d le = past xs k d (omega arith)
 
--- before the first trial all open defects are left
-pub tried_begin : (task : Task) (pair : List Bool) (number : ℕ) (open_places left : PlaceSet) (table : List (Option Verdict))
-    → AreOpen table open_places left → length table ≡ length task.defects → ((place : ℕ) → Has left place ↔ Has open_places place)
-    → IsTried task pair number left table table
-tried_begin task pair number open_places left table is count same = record {
+-- before the first trial all open defects of the part are left
+pub tried_begin : (task : Task) (pair : List Bool) (number start end : ℕ) (open_places left : PlaceSet) (table : List (Option Verdict))
+    → AreOpen table open_places left → length table ≡ length task.defects → IsPartOf left open_places start end
+    → IsTried task pair number start end left table table
+tried_begin task pair number start end open_places left table is count part = record {
   as_many = refl;
-  done = λ place defect gone at. stays_closed (task.chip_of place) pair number defect (verdict_at table place)
-      (λ may. gone ((same place).1 ((is.are place).1 (subst (λ n. place < n) (sym count) (some_before task.defects place defect at), may))));
+  inside = λ place has. let here = (part place).0 has in (here.1, here.2);
+  done = λ place defect low high gone at. stays_closed (task.chip_of place) pair number defect (verdict_at table place)
+      (λ may. gone ((part place).1 ((is.are place).1 (subst (λ n. place < n) (sym count) (some_before task.defects place defect at), may), low, high)));
   others = λ place has. refl;
+  outside = λ place out. refl;
 }
   where
     some_before : {T : Type 0} (xs : List T) (k : ℕ) (x : T) → slice_get xs k ≡ Some x → k < length xs
@@ -265,21 +272,105 @@ has_or_not set place = elim (ℕ_discrete (bit_at (slice_index set.words.items (
 ]
 
 -- where the pair detects all defects that are left nowhere, this is what it makes of the table
-pub tried_all : (task : Task) (pair : List Bool) (number : ℕ) (open_places left : PlaceSet) (old new : List (Option Verdict))
+pub tried_all : (task : Task) (pair : List Bool) (number start end : ℕ) (open_places left : PlaceSet) (old new : List (Option Verdict))
     → AreOpen new open_places left → ((place : ℕ) → Has left place → IsNowhere task (trits_of pair) place)
-    → IsTried task pair number left old new → CreditsPair task pair number old new
-tried_all task pair number open_places left old new stands nowhere is = record {
+    → IsTried task pair number start end left old new → CreditsIn task pair number start end old new
+tried_all task pair number start end open_places left old new stands nowhere is = record {
   as_many = is.as_many;
-  each = λ place defect below at. elim (has_or_not left place) [
+  each = λ place defect low high at. elim (has_or_not left place) [
     | inl has ↦
         let kept = is.others place has in
         let waits : is_open (verdict_at old place) ≡ true = ap is_open (sym kept) ∙ ((stands.are place).0 (stands.some place has)).1 in
         of_open (task.chip_of place) pair number defect (verdict_at old place) (verdict_at new place) waits
         (inr (record { undetected = not_shown_by (task.chip_of place) defect (trits_of pair) (nowhere place has defect at); same = kept }))
-    | inr gone ↦ is.done place defect gone at
+    | inr gone ↦ is.done place defect low high gone at
   ];
-  others = λ place from. past new place None (let e = is.as_many in omega arith) ∙ sym (past old place None from);
+  others = is.outside;
 }
+
+-- what a pair makes of all defects
+pub credits_whole : (task : Task) (pair : List Bool) (number : ℕ) (old new : List (Option Verdict))
+    → CreditsIn task pair number 0 (length old) old new → CreditsPair task pair number old new
+credits_whole task pair number old new is = record {
+  as_many = is.as_many;
+  each = λ place defect below at. is.each place defect (omega arith) below at;
+  others = λ place from. is.others place (inr from);
+}
+
+-- a place of a set is within its words
+pub has_within : (set : PlaceSet) (place : ℕ) → Has set place → HoldsUpTo set (place + 1)
+has_within set place has = elim (cases_lt (place / 64) (length set.words.items)) [
+  | inl less ↦ omega arith
+  | inr from ↦
+      let none : bit_at (slice_index set.words.items (place / 64)) (place % 64) ≡ 0 =
+      ap (λ w. bit_at w (place % 64)) (get_or_past set.words.items (place / 64) 0 from) ∙ bit_at-zero (place % 64) in
+      absurd (let e : 0 ≡ 1 = sym none ∙ has in omega arith)
+]
+
+-- what is left of a set where the places before a start were taken out
+pub rest_of : (old new : PlaceSet) (from start : ℕ) → from ≤ start → ((place : ℕ) → place < from → ¬ (Has new place))
+    → ((place : ℕ) → from ≤ place → Has new place ↔ Has old place) → ((place : ℕ) → from ≤ place → place < start → Has new place → ⊥)
+    → (place : ℕ) → Has new place ↔ (Has old place × (start ≤ place))
+rest_of old new from start within none others between place = (
+  (λ has. elim (cases_lt place start) [
+    | inl low ↦ elim (cases_lt place from) [
+      | inl less ↦ absurd (none place less has)
+      | inr high ↦ absurd (between place high low has)
+    ]
+    | inr past ↦ ((others place (omega arith)).0 has, past)
+  ]),
+  (λ part. (others place (let past = part.1 in omega arith)).1 part.0),
+)
+
+-- a part that has all open places from a start on, where the end is past all
+pub whole_part : (table : List (Option Verdict)) (open_places left all new : PlaceSet) (start end : ℕ) → AreOpen table open_places left
+    → ((place : ℕ) → Has all place ↔ Has open_places place) → ((place : ℕ) → Has new place ↔ (Has all place × (start ≤ place)))
+    → end ≡ length table → IsPartOf new open_places start end
+whole_part table open_places left all new start end is same rest end_is place = (
+  (λ has.
+      let was = (rest place).0 has in
+      let here = (same place).0 was.0 in
+      let below = ((is.are place).0 here).0 in (here, was.1, omega arith)),
+  (λ part. (rest place).1 ((same place).1 part.0, part.1)),
+)
+
+-- a part of the open places is left
+pub leaves_part : (table : List (Option Verdict)) (open_places left new : PlaceSet) (start end : ℕ) → AreOpen table open_places left
+    → IsPartOf new open_places start end → IsAsRoomy new left → AreOpen table open_places new
+leaves_part table open_places left new start end is part room = record {
+  are = is.are;
+  some = λ k has. ((part k).0 has).0;
+  room = is.room;
+  left_room = room ∙ is.left_room;
+}
+
+-- one place more is put in
+pub part_more : (old new set : PlaceSet) (start from place : ℕ) → start ≤ from → IsPartOf old set start from → IsNext set from (Some place)
+    → Has new place → ((other : ℕ) → other ≢ place → Has new other ↔ Has old other) → IsPartOf new set start (place + 1)
+part_more old new set start from place past part next here others k = elim (ℕ_discrete k place) [
+  | yes e ↦ (
+    (λ has. (subst (Has set) (sym e) next.1, (let low = next.0 in omega arith), (omega arith))),
+    (λ in_part. subst (Has new) (sym e) here),
+  )
+  | no differ ↦ (
+    (λ has. let was = (part k).0 ((others k differ).0 has) in (was.0, was.1, (let low = next.0 in let high = was.2 in omega arith))),
+    (λ in_part. elim (cases_lt k from) [
+      | inl low ↦ (others k differ).1 ((part k).1 (in_part.0, in_part.1, low))
+      | inr high ↦ absurd (next.2 k high (let below = in_part.2 in omega arith) in_part.0)
+    ]),
+  )
+]
+
+-- where there is no further place before the end, all are in
+pub part_ends : (part set : PlaceSet) (start from end : ℕ) → from ≤ end → IsPartOf part set start from
+    → ((place : ℕ) → from ≤ place → place < end → Has set place → ⊥) → IsPartOf part set start end
+part_ends part set start from end past is none k = (
+  (λ has. let was = (is k).0 has in (was.0, was.1, (let high = was.2 in omega arith))),
+  (λ in_part. elim (cases_lt k from) [
+    | inl low ↦ (is k).1 (in_part.0, in_part.1, low)
+    | inr high ↦ absurd (none k high in_part.2 in_part.0)
+  ]),
+)
 
 -- the pair detects the defect nowhere: the same for a task and bits that are equal
 pub nowhere_same : (task same : Task) (pair : List Bool) (bits : List Trit) (place : ℕ) → same ≡ task → bits ≡ trits_of pair

@@ -68,6 +68,15 @@ pub record CreditsUpTo (task : Task) (pair : List Bool) (number count : ℕ)
       → IsAfterPair (task.chip_of place) pair number defect (verdict_at old place) (verdict_at new place)
   pub others : (place : ℕ) → count ≤ place → verdict_at new place ≡ verdict_at old place
 
+-- what a pair makes of the verdicts of the defects from a place of the list to an end; the others stay
+pub record CreditsIn (task : Task) (pair : List Bool) (number start end : ℕ) (old new : List (Option Verdict))
+    : Type 0 where
+  pub as_many : length new ≡ length old
+  pub each : (place : ℕ) (defect : ChipDefect) → start ≤ place → place < end → IsDefectAt task place defect
+      → IsAfterPair (task.chip_of place) pair number defect (verdict_at old place) (verdict_at new place)
+  pub others : (place : ℕ) → (place < start) ⊎ (end ≤ place)
+      → verdict_at new place ≡ verdict_at old place
+
 -- what a pair makes of the table
 abbrev pub CreditsPair : Task → List Bool → ℕ → List (Option Verdict) → List (Option Verdict) → Type 0
 CreditsPair task pair number old new = CreditsUpTo task pair number (length old) old new

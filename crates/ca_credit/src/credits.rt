@@ -8,7 +8,7 @@ ghost use Rattle.ca_credit.specs.Table.{known_verdicts, AreAllKnown, verdict_at,
 ghost use Rattle.std.specs.Prelude.{◌-◌, min};
 ghost use Rattle.std.specs.List.{All};
 ghost use Rattle.std.specs.Option.{option_copied};
-ghost use Rattle.ca_credit.specs.Table.{CreditsPair, CreditsBlock, credit_count};
+ghost use Rattle.ca_credit.specs.Table.{CreditsIn, CreditsPair, CreditsBlock, credit_count};
 ghost use Rattle.ca_credit.specs.Aims.{AimsAtSuspects, AimsOverBlock, aimed_after, bits_after};
 
 use crate::lanes::{LANES, keep_pairs};
@@ -99,6 +99,34 @@ impl Credits {
         sim.load(pair);
         sim.turn_to(number as usize % LANES);
         let credited = self.round.try_all(sim, pair, number);
+        sim.aim_at_none();
+        credited
+    }
+
+    /// The same for the defects alone that stand from one place of the list on up to an end.
+    pub fn credit_in<S: Simulator>(
+        &mut self,
+        sim: &mut S,
+        pair: &Pair,
+        number: u32,
+        start: usize,
+        end: usize,
+    ) -> u32
+        requires same { length self.old ≡ length (S.task sim.old).defects }
+        requires few { length self.old < 2 ^ 32 }
+        requires bits { length pair.now ≡ bit_count (S.task sim.old).chip }
+        requires start { start ≤ end }
+        requires within { end ≤ length self.old }
+
+        ensures credited { CreditsIn (S.task sim.old) pair.now number start end self.old self.new }
+        ensures counted { credit_count self.new ≡ credit_count self.old + result }
+        ensures task { S.task sim.new ≡ S.task sim.old }
+        ensures bits { S.bits sim.new ≡ trits_of pair.now }
+        ensures aimed { S.aimed sim.new ≡ None }
+    {
+        sim.load(pair);
+        sim.turn_to(number as usize % LANES);
+        let credited = self.round.try_in(sim, pair, number, start, end);
         sim.aim_at_none();
         credited
     }

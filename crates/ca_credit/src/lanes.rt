@@ -22,11 +22,24 @@ pub fn keep_pairs<S: Simulator>(sim: &mut S, pairs: &[Pair], place: usize)
     ensures bits { S.bits sim.new ≡ S.bits sim.old }
     ensures aims { S.aims sim.new ≡ S.aims sim.old }
 {
-    if place % LANES != 0 {
-        return;
+    if place % LANES == 0 {
+        keep_pairs_from(sim, pairs, place);
     }
-    let count = LANES.min(pairs.len() - place);
-    for lane in 0..count {
-        sim.keep(lane, &pairs[place + lane]);
+}
+
+/// Keeps the pairs of the list from this place on in lanes, `LANES` of them, or all where fewer are left: each
+/// has the lane of its place, counted by `LANES`. The bits and the aim of the simulator stay.
+pub fn keep_pairs_from<S: Simulator>(sim: &mut S, pairs: &[Pair], from: usize)
+    requires within { from ≤ length pairs.now }
+    requires bits { All (λ pair. length pair ≡ bit_count (S.task sim.old).chip) pairs.now }
+
+    ensures task { S.task sim.new ≡ S.task sim.old }
+    ensures aimed { S.aimed sim.new ≡ S.aimed sim.old }
+    ensures bits { S.bits sim.new ≡ S.bits sim.old }
+    ensures aims { S.aims sim.new ≡ S.aims sim.old }
+{
+    let count = LANES.min(pairs.len() - from);
+    for k in 0..count {
+        sim.keep((from + k) % LANES, &pairs[from + k]);
     }
 }

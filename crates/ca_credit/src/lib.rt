@@ -14,7 +14,7 @@ mod verdicts;
 
 pub use by_lasts::ByLasts;
 pub use credits::{BLOCK, Credits};
-pub use lanes::{LANES, keep_pairs};
+pub use lanes::{LANES, keep_pairs, keep_pairs_from};
 pub use laws::{
     ample_is_never_aborted, pattern_bits_are_never_aborted, suspect_is_allowed_by_rows,
     unexposable_is_undetected,

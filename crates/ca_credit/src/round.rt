@@ -2,15 +2,15 @@
 
 ghost use Rattle.std.specs.Prelude.{ℕ, ◌≡◌, ◌↔◌, ◌<◌, ◌≤◌, ◌^◌, ◌+◌, length, replicate, slice_set};
 ghost use Rattle.std.specs.Prelude.{true, false, List, Bool, None, Some, IsSome, IfOk, IsTrue, IsFalse};
-ghost use Rattle.ca_places.specs.PlaceSet.{Has, HasRoomFor};
+ghost use Rattle.ca_places.specs.PlaceSet.{Has, HasRoomFor, IsAsRoomy};
 ghost use Rattle.ca_flat.specs.declared.chip_defect.ChipDefect.{ChipDefect};
 ghost use Rattle.ca_search.specs.Filled.{trits_of};
 ghost use Rattle.ca_credit.specs.Defects.{Task, IsDefectAt};
-ghost use Rattle.ca_credit.specs.Table.{verdict_at, is_open, CreditsPair};
+ghost use Rattle.ca_credit.specs.Table.{verdict_at, is_open, CreditsIn, CreditsPair};
 ghost use Rattle.ca_credit.specs.Table.{credit_count};
 ghost use Rattle.ca_credit.specs.code.Aims.{AimsAtSuspect, AimsUpTo};
 ghost use Rattle.ca_credit.specs.Detection.{IsAnswer};
-ghost use Rattle.ca_credit.specs.code.Round.{IsRound, IsWithout, TriesMore};
+ghost use Rattle.ca_credit.specs.code.Round.{IsPartOf, IsRound, IsWithout, TriesMore};
 
 use crate::by_lasts::ByLasts;
 use crate::credit::detecting_output;
@@ -324,8 +324,65 @@ impl Round {
         }
     }
 
-    /// Tries the pair in hand on all defects with which a pair may yet be credited. Answers how many it is
-    /// credited with. Its time is that of these defects, and a look at the words of their set.
+    // The open places from one on up to an end are left, and no others.
+    fn leave(&mut self, start: usize, end: usize)
+        requires start { start ≤ end }
+        requires within { end ≤ length self.old.verdicts.items }
+        requires stands { IsRound self.old }
+
+        ensures left { IsPartOf self.new.left self.old.open_places start end }
+        ensures open_places { self.new.open_places ≡ self.old.open_places }
+        ensures verdicts { self.new.verdicts.items ≡ self.old.verdicts.items }
+        ensures stands { IsRound self.new }
+    {
+        if end == self.verdicts.len() {
+            self.left.take_over(&self.open_places);
+            remove_before(&mut self.left, start);
+            return;
+        }
+        clear(&mut self.left, self.verdicts.len());
+        insert_between(&mut self.left, &self.open_places, start, end);
+    }
+
+    /// Tries the pair in hand on all defects with which a pair may yet be credited and whose places are from
+    /// one on up to an end. Answers how many it is credited with. Its time is that of these defects, and a
+    /// look at the words of their set.
+    pub(crate) fn try_in<S: Simulator>(
+        &mut self,
+        sim: &mut S,
+        pair: &Pair,
+        number: u32,
+        start: usize,
+        end: usize,
+    ) -> u32
+        requires same { length self.old.verdicts.items ≡ length (S.task sim.old).defects }
+        requires few { length self.old.verdicts.items < 2 ^ 32 }
+        requires within { end ≤ length self.old.verdicts.items }
+        requires start { start ≤ end }
+        requires stands { IsRound self.old }
+        requires bits { S.bits sim.old ≡ trits_of pair.now }
+
+        ensures credited { CreditsIn (S.task sim.old) pair.now number start end
+            self.old.verdicts.items self.new.verdicts.items }
+        ensures counted { credit_count self.new.verdicts.items
+            ≡ credit_count self.old.verdicts.items + result }
+        ensures stands { IsRound self.new }
+        ensures task { S.task sim.new ≡ S.task sim.old }
+        ensures bits { S.bits sim.new ≡ S.bits sim.old }
+        ensures aims { AimsUpTo (S.task sim.old) pair.now (length self.old.verdicts.items)
+            self.old.verdicts.items (S.aims sim.old) (S.aims sim.new) }
+    {
+        self.leave(start, end);
+        let mut credited = 0;
+        let mut from = start;
+        'places: while let Some(place) = sim.next_to_try(&self.left, from) {
+            credited += self.take_turn(sim, pair, number, place);
+            from = place + 1;
+        }
+        credited
+    }
+
+    /// The same for all defects with which a pair may yet be credited.
     pub(crate) fn try_all<S: Simulator>(&mut self, sim: &mut S, pair: &Pair, number: u32) -> u32
         requires same { length self.old.verdicts.items ≡ length (S.task sim.old).defects }
         requires few { length self.old.verdicts.items < 2 ^ 32 }
@@ -342,13 +399,53 @@ impl Round {
         ensures aims { AimsUpTo (S.task sim.old) pair.now (length self.old.verdicts.items)
             self.old.verdicts.items (S.aims sim.old) (S.aims sim.new) }
     {
-        self.left.take_over(&self.open_places);
-        let mut credited = 0;
-        let mut from = 0;
-        'places: while let Some(place) = sim.next_to_try(&self.left, from) {
-            credited += self.take_turn(sim, pair, number, place);
-            from = place + 1;
+        let end = self.verdicts.len();
+        self.try_in(sim, pair, number, 0, end)
+    }
+}
+
+// Takes all places out of a set, which are below an end.
+fn clear(set: &mut PlaceSet, end: usize)
+    requires { (place : ℕ) → Has set.old place → place < end }
+    ensures none { (place : ℕ) → ¬ (Has set.new place) }
+    ensures room { IsAsRoomy set.new set.old }
+{
+    let mut from = 0;
+    'places: while let Some(place) = set.next(from) {
+        set.remove(place);
+        from = place + 1;
+    }
+}
+
+// Takes the places before one out of a set.
+fn remove_before(set: &mut PlaceSet, start: usize)
+    ensures rest { (place : ℕ) → Has set.new place ↔ (Has set.old place × (start ≤ place)) }
+    ensures room { IsAsRoomy set.new set.old }
+{
+    let mut from = 0;
+    'places: while let Some(place) = set.next(from) {
+        if place >= start {
+            return;
         }
-        credited
+        set.remove(place);
+        from = place + 1;
+    }
+}
+
+// Puts the places of a set from one on up to an end into one that has none.
+fn insert_between(into: &mut PlaceSet, set: &PlaceSet, start: usize, end: usize)
+    requires start { start ≤ end }
+    requires none { (place : ℕ) → ¬ (Has into.old place) }
+    requires room { IsAsRoomy into.old set.now }
+    ensures part { IsPartOf into.new set.now start end }
+    ensures room { IsAsRoomy into.new into.old }
+{
+    let mut from = start;
+    'places: while let Some(place) = set.next(from) {
+        if place >= end {
+            return;
+        }
+        into.insert(place);
+        from = place + 1;
     }
 }

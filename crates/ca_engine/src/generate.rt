@@ -8,7 +8,7 @@ ghost use Rattle.ca_engine.specs.ChipTask.{task_of};
 ghost use Rattle.ca_sweep.specs.Seen.{IsForChip};
 
 use crate::chip_bench::ChipBench;
-use crate::finders::reserve_finder;
+use crate::finders::reserve_laned;
 use crate::untestable::untestable_marks;
 use ca_choice::CheapestWay;
 use ca_generate::{GenerateFault, Generated, Watch, generate_knowing};
@@ -116,7 +116,7 @@ fn generate_found<R: ExposableDefects, P: Choice + Drop, T: Watch>(
         (λ made. IsGood (task_of view.now.chip budget) made.pairs made.aims made.verdicts) }
     ensures cause { IfErr result (IsCause (task_of view.now.chip budget)) }
 {
-    let finder = reserve_finder(alloc, view)?;
+    let finder = reserve_laned(alloc, view)?;
     generate_by(alloc, view, rows, choice, finder, untestable, budget, watch)
 }
 

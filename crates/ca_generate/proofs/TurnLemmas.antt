@@ -2,14 +2,16 @@
 use Rattle.std.proofs.Common.{◌≡◌, ℕ, ◌+◌, ◌<◌, ◌≤◌, List, [], ◌∷◌, ◌++◌, length, Bool, inl, inr, refl, sym}
 use Rattle.std.proofs.Common.{◌∙◌, ap, subst, arith, Some, None, Option}
 use native.Mathlib.Decide.{ℕ_discrete}
-use Rattle.std.specs.Prelude.{slice_set}
-use Rattle.std.proofs.lemmas.List.{length-append, length-set}
+use Rattle.std.specs.Prelude.{slice_get, slice_set}
+use Rattle.std.proofs.lemmas.Bool.{cases_lt}
+use Rattle.std.proofs.lemmas.List.{append_assoc, append-nil, length-append, length-set}
 use Rattle.std.proofs.lemmas.List.Elements.{All-push, All-nil}
 use Rattle.std.proofs.lemmas.Option.{slice_get_within}
 use Rattle.ca_flat.specs.declared.chip_defect.ChipDefect.{ChipDefect}
 use Rattle.ca_flat.specs.declared.token.Token.{Token}
 use Rattle.ca_flat.specs.Chip.{Chip}
 use Rattle.ca_flat.specs.Codes.{IsWholeCode, IsSpentCode}
+use Rattle.ca_flat.specs.Pair.{bit_count}
 use Rattle.ca_credit.specs.declared.verdict.Verdict.{Verdict}
 use Rattle.ca_credit.specs.declared.verdict.Verdict.TheVariants.{Credited, Unexposable, Untestable, Aborted}
 use Rattle.ca_credit.specs.Defects.{Task, IsDefectAt, IsExposableIn}
@@ -17,21 +19,21 @@ use Rattle.ca_credit.specs.Detection.{Detects, NoneDetects, IsFirstOutput, IsFir
 use Rattle.ca_credit.specs.Detection.{IsUntestable}
 use Rattle.ca_credit.specs.Listed.{IsFoundAt, IsAim, AreAims}
 use Rattle.ca_credit.specs.Good.{IsAmple, IsCheckedSpent}
-use Rattle.ca_credit.specs.Table.{verdict_at, IsCredit, IsAfterPair, CreditsPair}
+use Rattle.ca_credit.specs.Table.{verdict_at, IsCredit, IsAfterPair, CreditsIn}
 use Rattle.ca_credit.proofs.LawLemmas.{not_ample}
 use Rattle.ca_credit.proofs.TableLemmas.{same_defect, verdict_at-set, verdict_at-other}
 use Rattle.ca_credit.specs.declared.limit.TheConstants.{MOST_PAIRS}
-use Rattle.ca_generate.specs.code.Progress.{IsWaiting, IsEntry, IsCreditAt, StandsAfter, IsScreenedEntry}
+use Rattle.ca_generate.specs.code.Progress.{IsWaiting, IsEntry, IsCreditAt, StandsAfter, StandsUpTo, IsScreenedEntry}
 use Rattle.ca_generate.specs.code.Progress.{IsScreened}
 use Rattle.ca_generate.proofs.ListLemmas.{entry_stays, entry_new, entry_is, some_within, some_stays, some_new}
-use Rattle.ca_generate.proofs.ListLemmas.{first_stays, first_new}
+use Rattle.ca_generate.proofs.ListLemmas.{first_stays, first_new, next_of, whole_of}
 use Rattle.ca_generate.proofs.FoundLemmas.{found_detects, whole_is_untestable}
 
 -- a defect that has no verdict when its turn comes
-waiting_of : (task : Task) (turns : ℕ) (table : List (Option Verdict)) (pairs : List (List Bool)) (aims : List ℕ) (place : ℕ) (defect : ChipDefect)
-    → StandsAfter task turns table pairs aims → verdict_at table place ≡ None → IsDefectAt task place defect → IsWaiting task turns pairs place defect
-waiting_of task turns table pairs aims place defect stands none is =
-    subst (IsEntry task turns pairs aims place defect) none (stands.entries place defect is)
+waiting_of : (task : Task) (turns edge : ℕ) (done : List (List Bool)) (table : List (Option Verdict)) (pairs : List (List Bool)) (aims : List ℕ) (place : ℕ) (defect : ChipDefect)
+    → StandsUpTo task turns edge done table pairs aims → place < edge → verdict_at table place ≡ None → IsDefectAt task place defect → IsWaiting task turns pairs place defect
+waiting_of task turns edge done table pairs aims place defect stands below none is =
+    subst (IsEntry task turns pairs aims place defect) none (stands.near place defect below is)
 
 -- the others, when one more had its turn
 entry_next : (task : Task) (turns : ℕ) (pairs : List (List Bool)) (aims : List ℕ) (place : ℕ) (defect : ChipDefect) (verdict : Option Verdict)
@@ -45,37 +47,53 @@ entry_next task turns pairs aims place defect (Some Untestable) other is = is
 entry_next task turns pairs aims place defect (Some (Aborted code)) other is = is
 
 -- the turn of a defect that has a verdict
-pub turn_skipped : (task : Task) (place : ℕ) (table : List (Option Verdict)) (pairs : List (List Bool)) (aims : List ℕ)
-    → (verdict_at table place ≡ None → ⊥) → StandsAfter task place table pairs aims → StandsAfter task (place + 1) table pairs aims
-turn_skipped task place table pairs aims known stands = record {
+pub turn_skipped : (task : Task) (place edge : ℕ) (done : List (List Bool)) (table : List (Option Verdict)) (pairs : List (List Bool)) (aims : List ℕ)
+    → place < edge → (verdict_at table place ≡ None → ⊥) → StandsUpTo task place edge done table pairs aims → StandsUpTo task (place + 1) edge done table pairs aims
+turn_skipped task place edge done table pairs aims ahead known stands = record {
   as_many = stands.as_many;
-  entries = λ other defect is. entry_next task place pairs aims other defect (verdict_at table other)
-      (λ none e. known (subst (λ (k : ℕ). verdict_at table k ≡ None) e none)) (stands.entries other defect is);
+  near = λ other defect below is. entry_next task place pairs aims other defect (verdict_at table other)
+      (λ none e. known (subst (λ (k : ℕ). verdict_at table k ≡ None) e none)) (stands.near other defect below is);
+  far = λ other defect from is. entry_next task place done aims other defect (verdict_at table other)
+      (λ none e. absurd (omega arith)) (stands.far other defect from is);
+  ahead = omega arith;
+  edge_within = stands.edge_within;
+  rest = stands.rest;
+  pairs_are = stands.pairs_are;
   within = stands.within;
+  bits = stands.bits;
   aims_are = stands.aims_are;
   aims_before = λ pair aim is. let before = stands.aims_before pair aim is in omega arith;
   aims_credited = stands.aims_credited;
 }
 
 -- the turn of a defect that gets a verdict other than a credit
-turn_settled : (task : Task) (place : ℕ) (table : List (Option Verdict)) (pairs : List (List Bool)) (aims : List ℕ) (defect : ChipDefect) (verdict : Verdict)
-    → StandsAfter task place table pairs aims → IsDefectAt task place defect
+turn_settled : (task : Task) (place edge : ℕ) (done : List (List Bool)) (table : List (Option Verdict)) (pairs : List (List Bool)) (aims : List ℕ) (defect : ChipDefect) (verdict : Verdict)
+    → place < edge → StandsUpTo task place edge done table pairs aims → IsDefectAt task place defect
     → IsEntry task (place + 1) pairs aims place defect (Some verdict)
-    → StandsAfter task (place + 1) (slice_set table place (Some verdict)) pairs aims
-turn_settled task place table pairs aims defect verdict stands is_defect entry =
+    → StandsUpTo task (place + 1) edge done (slice_set table place (Some verdict)) pairs aims
+turn_settled task place edge done table pairs aims defect verdict ahead stands is_defect entry =
     let within : place < length table = let lt = slice_get_within (task.defects) place defect is_defect in let e = stands.as_many in omega arith in
     record {
       as_many = length-set table place (Some verdict) ∙ stands.as_many;
-      entries = λ other d is. elim (ℕ_discrete other place) [
+      near = λ other d below is. elim (ℕ_discrete other place) [
         | yes e ↦
             let same : defect ≡ d = same_defect task place defect d is_defect (subst (λ (k : ℕ). IsDefectAt task k d) e is) in
             subst (λ (k : ℕ). IsEntry task (place + 1) pairs aims k d (verdict_at (slice_set table place (Some verdict)) k)) (sym e)
             (subst (IsEntry task (place + 1) pairs aims place d) (sym (verdict_at-set table place (Some verdict) within))
             (subst (λ (x : ChipDefect). IsEntry task (place + 1) pairs aims place x (Some verdict)) same entry))
         | no differ ↦ subst (IsEntry task (place + 1) pairs aims other d) (sym (verdict_at-other table place other (Some verdict) differ))
-            (entry_next task place pairs aims other d (verdict_at table other) (λ none e. differ e) (stands.entries other d is))
+            (entry_next task place pairs aims other d (verdict_at table other) (λ none e. differ e) (stands.near other d below is))
       ];
+      far = λ other d from is.
+          let differ : other ≡ place → ⊥ = λ e. absurd (omega arith) in
+          subst (IsEntry task (place + 1) done aims other d) (sym (verdict_at-other table place other (Some verdict) differ))
+          (entry_next task place done aims other d (verdict_at table other) (λ none e. differ e) (stands.far other d from is));
+      ahead = omega arith;
+      edge_within = let few = stands.edge_within in let e = length-set table place (Some verdict) in omega arith;
+      rest = stands.rest;
+      pairs_are = stands.pairs_are;
       within = stands.within;
+      bits = stands.bits;
       aims_are = stands.aims_are;
       aims_before = λ pair aim is. let before = stands.aims_before pair aim is in omega arith;
       aims_credited = λ pair aim is.
@@ -86,28 +104,28 @@ turn_settled task place table pairs aims defect verdict stands is_defect entry =
     }
 
 -- the turn of a defect that is known to be untestable
-pub turn_untestable : (task : Task) (place : ℕ) (table : List (Option Verdict)) (pairs : List (List Bool)) (aims : List ℕ) (defect : ChipDefect)
-    → StandsAfter task place table pairs aims → verdict_at table place ≡ None → IsDefectAt task place defect → IsUntestable (task.chip_of place) defect
-    → StandsAfter task (place + 1) (slice_set table place (Some Untestable)) pairs aims
-turn_untestable task place table pairs aims defect stands none is untestable =
-    let waiting = waiting_of task place table pairs aims place defect stands none is in
-    turn_settled task place table pairs aims defect Untestable stands is
+pub turn_untestable : (task : Task) (place edge : ℕ) (done : List (List Bool)) (table : List (Option Verdict)) (pairs : List (List Bool)) (aims : List ℕ) (defect : ChipDefect)
+    → place < edge → StandsUpTo task place edge done table pairs aims → verdict_at table place ≡ None → IsDefectAt task place defect → IsUntestable (task.chip_of place) defect
+    → StandsUpTo task (place + 1) edge done (slice_set table place (Some Untestable)) pairs aims
+turn_untestable task place edge done table pairs aims defect ahead stands none is untestable =
+    let waiting = waiting_of task place edge done table pairs aims place defect stands ahead none is in
+    turn_settled task place edge done table pairs aims defect Untestable ahead stands is
     (record { exposable = waiting.exposable; untestable = untestable })
 
 -- the turn of a defect for which the search was exhausted
-pub turn_exhausted : (task : Task) (place : ℕ) (table : List (Option Verdict)) (pairs : List (List Bool)) (aims : List ℕ) (defect : ChipDefect) (code : List Token)
-    → StandsAfter task place table pairs aims → verdict_at table place ≡ None → IsDefectAt task place defect → IsWholeCode (task.chip_of place) defect code
-    → StandsAfter task (place + 1) (slice_set table place (Some Untestable)) pairs aims
-turn_exhausted task place table pairs aims defect code stands none is whole =
-    turn_untestable task place table pairs aims defect stands none is (whole_is_untestable (task.chip_of place) defect code whole)
+pub turn_exhausted : (task : Task) (place edge : ℕ) (done : List (List Bool)) (table : List (Option Verdict)) (pairs : List (List Bool)) (aims : List ℕ) (defect : ChipDefect) (code : List Token)
+    → place < edge → StandsUpTo task place edge done table pairs aims → verdict_at table place ≡ None → IsDefectAt task place defect → IsWholeCode (task.chip_of place) defect code
+    → StandsUpTo task (place + 1) edge done (slice_set table place (Some Untestable)) pairs aims
+turn_exhausted task place edge done table pairs aims defect code ahead stands none is whole =
+    turn_untestable task place edge done table pairs aims defect ahead stands none is (whole_is_untestable (task.chip_of place) defect code whole)
 
 -- the turn of a defect for which the search spent its budget
-pub turn_spent : (task : Task) (place : ℕ) (table : List (Option Verdict)) (pairs : List (List Bool)) (aims : List ℕ) (defect : ChipDefect) (code : List Token)
-    → StandsAfter task place table pairs aims → verdict_at table place ≡ None → IsDefectAt task place defect → IsSpentCode (task.chip_of place) defect task.budget code → IsCheckedSpent (task.chip_of place) defect task.budget code
-    → StandsAfter task (place + 1) (slice_set table place (Some (Aborted code))) pairs aims
-turn_spent task place table pairs aims defect code stands none is spent checked =
-    let waiting = waiting_of task place table pairs aims place defect stands none is in
-    turn_settled task place table pairs aims defect (Aborted code) stands is
+pub turn_spent : (task : Task) (place edge : ℕ) (done : List (List Bool)) (table : List (Option Verdict)) (pairs : List (List Bool)) (aims : List ℕ) (defect : ChipDefect) (code : List Token)
+    → place < edge → StandsUpTo task place edge done table pairs aims → verdict_at table place ≡ None → IsDefectAt task place defect → IsSpentCode (task.chip_of place) defect task.budget code → IsCheckedSpent (task.chip_of place) defect task.budget code
+    → StandsUpTo task (place + 1) edge done (slice_set table place (Some (Aborted code))) pairs aims
+turn_spent task place edge done table pairs aims defect code ahead stands none is spent checked =
+    let waiting = waiting_of task place edge done table pairs aims place defect stands ahead none is in
+    turn_settled task place edge done table pairs aims defect (Aborted code) ahead stands is
     (record {
       rightly = record { exposable = waiting.exposable; undetected = waiting.undetected; spent = spent };
       checked = checked;
@@ -137,6 +155,20 @@ credited_new task place pairs aims pair other defect new one_each exposable none
         | inl old ↦ let lt = slice_get_within aims (length pairs) aim old in absurd (omega arith)
         | inr new_aim ↦ let e : aim ≡ place = new_aim.1 in let le = from ample in omega arith
       ];
+    })
+
+-- one to a pair that is listed, at a place past all aims
+credited_past : (task : Task) (turns : ℕ) (done : List (List Bool)) (aims : List ℕ) (pair : List Bool) (other : ℕ) (defect : ChipDefect) (new : Option Verdict)
+    → ((number aim : ℕ) → slice_get aims number ≡ Some aim → aim ≤ other) → IsExposableIn (task.chip_of other) defect → NoneDetects (task.chip_of other) defect done
+    → IsCredit (task.chip_of other) pair (length done) defect new → IsEntry task turns (done ++ pair ∷ []) aims other defect new
+credited_past task turns done aims pair other defect new below exposable none credit =
+    subst (IsEntry task turns (done ++ pair ∷ []) aims other defect) (sym credit.credited) (record {
+      exposable = exposable;
+      first = record {
+        first_pair = first_new (Detects (task.chip_of other) defect) done pair none credit.detects;
+        first_output = some_new done pair (IsFirstOutput (task.chip_of other) defect credit.output) credit.first;
+      };
+      least = λ ample aim is. below (length done) aim is;
     })
 
 -- what the new pair makes of each entry
@@ -179,11 +211,11 @@ entry_found task place pairs aims pair other defect (Some (Aborted code)) new on
 ]
 
 -- the aims, with that of the new pair
-pub aims_found : (task : Task) (place : ℕ) (table : List (Option Verdict)) (pairs : List (List Bool)) (aims : List ℕ) (pair : List Bool)
-    → StandsAfter task place table pairs aims → verdict_at table place ≡ None → IsFoundAt task place pair
+pub aims_found : (task : Task) (place edge : ℕ) (done : List (List Bool)) (table : List (Option Verdict)) (pairs : List (List Bool)) (aims : List ℕ) (pair : List Bool)
+    → place < edge → StandsUpTo task place edge done table pairs aims → verdict_at table place ≡ None → IsFoundAt task place pair
     → AreAims task (pairs ++ pair ∷ []) (aims ++ place ∷ [])
-aims_found task place table pairs aims pair stands none found =
-    let waiting = waiting_of task place table pairs aims place found.defect stands none found.is_defect in
+aims_found task place edge done table pairs aims pair ahead stands none found =
+    let waiting = waiting_of task place edge done table pairs aims place found.defect stands ahead none found.is_defect in
     let detects = found_detects (task.chip_of place) task.budget found.defect pair found.found in
     let before = stands.aims_are in
     let one_each : length aims ≡ length pairs = before.one_each in
@@ -221,25 +253,48 @@ aims_found task place table pairs aims pair stands none found =
       ];
     }
 
--- the turn of a defect for which a pair was found, once that was credited
-pub turn_found : (task : Task) (place : ℕ) (table new : List (Option Verdict)) (pairs : List (List Bool)) (aims : List ℕ) (pair : List Bool)
-    → StandsAfter task place table pairs aims → verdict_at table place ≡ None → IsFoundAt task place pair
-    → length pairs < MOST_PAIRS → CreditsPair task pair (length pairs) table new
-    → StandsAfter task (place + 1) new (pairs ++ pair ∷ []) (aims ++ place ∷ [])
-turn_found task place table new pairs aims pair stands none found few credits =
+-- a place that wasn't tried with the pair, when that was listed
+entry_listed : (task : Task) (place : ℕ) (done : List (List Bool)) (aims : List ℕ) (other : ℕ) (defect : ChipDefect) (verdict : Option Verdict)
+    → length done ≤ length aims → place < other → IsEntry task place done aims other defect verdict
+    → IsEntry task (place + 1) done (aims ++ place ∷ []) other defect verdict
+entry_listed task place done aims other defect None few past is = record { to_come = omega arith; exposable = is.exposable; undetected = is.undetected }
+entry_listed task place done aims other defect (Some (Credited pair output)) few past is = record {
+  exposable = is.exposable;
+  first = is.first;
+  least = λ ample aim is_aim. elim (entry_is aims place pair aim is_aim) [
+    | inl old ↦ is.least ample aim old
+    | inr new ↦ absurd (let lt = some_within done _ pair is.first.first_output in let e : pair ≡ length aims = new.0 in omega arith)
+  ];
+}
+entry_listed task place done aims other defect (Some Unexposable) few past is = is
+entry_listed task place done aims other defect (Some Untestable) few past is = is
+entry_listed task place done aims other defect (Some (Aborted code)) few past is = is
+
+-- the turn of a defect for which a pair was found, once that was credited before the edge
+pub turn_found : (task : Task) (place edge : ℕ) (done : List (List Bool)) (table new : List (Option Verdict)) (pairs : List (List Bool)) (aims : List ℕ) (pair : List Bool)
+    → place < edge → StandsUpTo task place edge done table pairs aims → verdict_at table place ≡ None → IsFoundAt task place pair
+    → length pair ≡ bit_count task.chip → length pairs < MOST_PAIRS → CreditsIn task pair (length pairs) 0 edge table new
+    → StandsUpTo task (place + 1) edge done new (pairs ++ pair ∷ []) (aims ++ place ∷ [])
+turn_found task place edge done table new pairs aims pair ahead stands none found bits few credits =
     let detects = found_detects (task.chip_of place) task.budget found.defect pair found.found in
     let one_each : length aims ≡ length pairs = stands.aims_are.one_each in
-    let count : length table ≡ length (task.defects) = stands.as_many in
-    let below = λ (other : ℕ) (d : ChipDefect) (is : IsDefectAt task other d).
-    (let lt = slice_get_within (task.defects) other d is in let b : other < length table = omega arith in b) in
+    let some_done : length done ≤ length aims =
+    (let l = ap length stands.pairs_are in let m = length-append done stands.rest in let e = one_each in omega arith) in
     record {
       as_many = credits.as_many ∙ stands.as_many;
-      entries = λ other d is. entry_found task place pairs aims pair other d (verdict_at table other) (verdict_at new other) one_each is
+      near = λ other d below is. entry_found task place pairs aims pair other d (verdict_at table other) (verdict_at new other) one_each is
           (λ e. subst (λ (k : ℕ). Detects (task.chip_of k) d pair) (sym e) (subst (λ (x : ChipDefect). Detects (task.chip_of place) x pair)
           (same_defect task place found.defect d found.is_defect (subst (λ (k : ℕ). IsDefectAt task k d) e is)) detects))
-          (stands.entries other d is) (credits.each other d (below other d is) is);
+          (stands.near other d below is) (credits.each other d (omega arith) below is);
+      far = λ other d from is. subst (IsEntry task (place + 1) done (aims ++ place ∷ []) other d) (sym (credits.others other (inr from)))
+          (entry_listed task place done aims other d (verdict_at table other) some_done (omega arith) (stands.far other d from is));
+      ahead = omega arith;
+      edge_within = let few_edge = stands.edge_within in let e = credits.as_many in omega arith;
+      rest = stands.rest ++ pair ∷ [];
+      pairs_are = ap (λ (list : List (List Bool)). list ++ pair ∷ []) stands.pairs_are ∙ append_assoc done stands.rest (pair ∷ []);
       within = (let l = length-append pairs (pair ∷ []) in omega arith);
-      aims_are = aims_found task place table pairs aims pair stands none found;
+      bits = All-push (λ x. length x ≡ bit_count task.chip) pairs pair stands.bits bits;
+      aims_are = aims_found task place edge done table pairs aims pair ahead stands none found;
       aims_before = λ number aim is. elim (entry_is aims place number aim is) [
         | inl old ↦ let b = stands.aims_before number aim old in omega arith
         | inr past ↦ let e : aim ≡ place = past.1 in omega arith
@@ -248,14 +303,15 @@ turn_found task place table new pairs aims pair stands none found few credits =
         | inl old ↦
             let credit = stands.aims_credited number aim old in
             let aimed = (stands.aims_are.each number aim old).found_at in
+            let before = stands.aims_before number aim old in
             record {
               output = credit.output;
               credited = subst (λ (v : Option Verdict). IsAfterPair (task.chip_of aim) pair (length pairs) aimed.defect v (verdict_at new aim)) credit.credited
-                  (credits.each aim aimed.defect (below aim aimed.defect aimed.is_defect) aimed.is_defect);
+                  (credits.each aim aimed.defect (omega arith) (omega arith) aimed.is_defect);
             }
         | inr past ↦
             let after = subst (λ (v : Option Verdict). IsAfterPair (task.chip_of place) pair (length pairs) found.defect v (verdict_at new place)) none
-            (credits.each place found.defect (below place found.defect found.is_defect) found.is_defect) in
+            (credits.each place found.defect (omega arith) ahead found.is_defect) in
             subst (λ (n : ℕ). IsCreditAt new n aim) (sym (past.0 ∙ one_each))
             (subst (λ (a : ℕ). IsCreditAt new (length pairs) a) (sym past.1)
             (elim after [
@@ -264,6 +320,104 @@ turn_found task place table new pairs aims pair stands none found few credits =
             ]))
       ];
     }
+
+-- what a pair makes of a place past the edge, which was tried with the pairs before it
+entry_caught_up : (task : Task) (turns : ℕ) (done : List (List Bool)) (aims : List ℕ) (pair : List Bool) (other : ℕ) (defect : ChipDefect) (old new : Option Verdict)
+    → ((number aim : ℕ) → slice_get aims number ≡ Some aim → aim ≤ other) → IsEntry task turns done aims other defect old
+    → IsAfterPair (task.chip_of other) pair (length done) defect old new → IsEntry task turns (done ++ pair ∷ []) aims other defect new
+entry_caught_up task turns done aims pair other defect None new below entry after = elim after [
+  | inl credit ↦ credited_past task turns done aims pair other defect new below entry.exposable entry.undetected credit
+  | inr kept ↦ subst (IsEntry task turns (done ++ pair ∷ []) aims other defect) (sym kept.same) (record {
+    to_come = entry.to_come;
+    exposable = entry.exposable;
+    undetected = All-push (λ x. ¬ (Detects (task.chip_of other) defect x)) done pair entry.undetected kept.undetected;
+  })
+]
+entry_caught_up task turns done aims pair other defect (Some (Credited before output)) new below entry after =
+    subst (IsEntry task turns (done ++ pair ∷ []) aims other defect) (sym after) (record {
+      exposable = entry.exposable;
+      first = detection_stays (task.chip_of other) defect done (pair ∷ []) before output entry.first;
+      least = entry.least;
+    })
+entry_caught_up task turns done aims pair other defect (Some Unexposable) new below entry after =
+    subst (IsEntry task turns (done ++ pair ∷ []) aims other defect) (sym after) entry
+entry_caught_up task turns done aims pair other defect (Some Untestable) new below entry after =
+    subst (IsEntry task turns (done ++ pair ∷ []) aims other defect) (sym after) entry
+entry_caught_up task turns done aims pair other defect (Some (Aborted code)) new below entry after = elim after [
+  | inl credit ↦ credited_past task turns done aims pair other defect new below entry.rightly.exposable entry.rightly.undetected credit
+  | inr kept ↦ subst (IsEntry task turns (done ++ pair ∷ []) aims other defect) (sym kept.same) (record {
+    rightly = record {
+      exposable = entry.rightly.exposable;
+      undetected = All-push (λ x. ¬ (Detects (task.chip_of other) defect x)) done pair entry.rightly.undetected kept.undetected;
+      spent = entry.rightly.spent;
+    };
+    checked = entry.checked;
+  })
+]
+
+-- the places past the edge are tried with one listed pair more
+pub caught_up : (task : Task) (turns edge : ℕ) (done : List (List Bool)) (table new : List (Option Verdict)) (pairs : List (List Bool)) (aims : List ℕ) (pair : List Bool)
+    → StandsUpTo task turns edge done table pairs aims → slice_get pairs (length done) ≡ Some pair → CreditsIn task pair (length done) edge (length table) table new
+    → StandsUpTo task turns edge (done ++ pair ∷ []) new pairs aims
+caught_up task turns edge done table new pairs aims pair stands at credits =
+    let next = next_of done stands.rest pair (sym (ap (λ (list : List (List Bool)). slice_get list (length done)) stands.pairs_are) ∙ at) in
+    record {
+      as_many = credits.as_many ∙ stands.as_many;
+      near = λ other d below is. subst (IsEntry task turns pairs aims other d) (sym (credits.others other (inl below))) (stands.near other d below is);
+      far = λ other d from is. entry_caught_up task turns done aims pair other d (verdict_at table other) (verdict_at new other)
+          (λ number aim is_aim. let before = stands.aims_before number aim is_aim in let ahead = stands.ahead in omega arith)
+          (stands.far other d from is)
+          (credits.each other d from (let lt = slice_get_within (task.defects) other d is in let e = stands.as_many in omega arith) is);
+      ahead = stands.ahead;
+      edge_within = let few = stands.edge_within in let e = credits.as_many in omega arith;
+      rest = next.0;
+      pairs_are = stands.pairs_are ∙ ap (λ (list : List (List Bool)). done ++ list) next.1 ∙ sym (append_assoc done (pair ∷ []) next.0);
+      within = stands.within;
+      bits = stands.bits;
+      aims_are = stands.aims_are;
+      aims_before = stands.aims_before;
+      aims_credited = λ number aim is.
+          let credit = stands.aims_credited number aim is in
+          let before = stands.aims_before number aim is in
+          let ahead = stands.ahead in
+          record { output = credit.output; credited = credits.others aim (inl (omega arith)) ∙ credit.credited };
+    }
+
+-- where all listed pairs were tried everywhere, it holds so of all places
+pub stands_whole : (task : Task) (turns edge : ℕ) (done : List (List Bool)) (table : List (Option Verdict)) (pairs : List (List Bool)) (aims : List ℕ)
+    → StandsUpTo task turns edge done table pairs aims → length done ≡ length pairs → StandsAfter task turns table pairs aims
+stands_whole task turns edge done table pairs aims stands all =
+    let same : done ≡ pairs = whole_of done stands.rest pairs stands.pairs_are all in
+    record {
+      as_many = stands.as_many;
+      entries = λ place defect is. elim (cases_lt place edge) [
+        | inl below ↦ stands.near place defect below is
+        | inr from ↦ subst (λ (list : List (List Bool)). IsEntry task turns list aims place defect (verdict_at table place)) same (stands.far place defect from is)
+      ];
+      within = stands.within;
+      bits = stands.bits;
+      aims_are = stands.aims_are;
+      aims_before = stands.aims_before;
+      aims_credited = stands.aims_credited;
+    }
+
+-- then any edge will do
+pub stands_split : (task : Task) (turns edge : ℕ) (table : List (Option Verdict)) (pairs : List (List Bool)) (aims : List ℕ)
+    → StandsAfter task turns table pairs aims → turns ≤ edge → edge ≤ length table → StandsUpTo task turns edge pairs table pairs aims
+stands_split task turns edge table pairs aims stands ahead within = record {
+  as_many = stands.as_many;
+  near = λ place defect below is. stands.entries place defect is;
+  far = λ place defect from is. stands.entries place defect is;
+  ahead = ahead;
+  edge_within = within;
+  rest = [];
+  pairs_are = sym (append-nil pairs);
+  within = stands.within;
+  bits = stands.bits;
+  aims_are = stands.aims_are;
+  aims_before = stands.aims_before;
+  aims_credited = stands.aims_credited;
+}
 
 -- before the first turn
 screened_entry : (task : Task) (place : ℕ) (defect : ChipDefect) (verdict : Option Verdict) → IsScreenedEntry (task.chip_of place) defect verdict
@@ -281,6 +435,7 @@ no_turn task table screened = record {
   entries = λ place defect is. screened_entry task place defect (verdict_at table place)
       (screened.entries place defect (slice_get_within (task.defects) place defect is) is);
   within = omega arith;
+  bits = All-nil _;
   aims_are = record { one_each = refl; ascending = λ k l low high lt is_low is_high. (let e : None ≡ Some low = is_low in cc); each = λ number aim is. cc };
   aims_before = λ pair aim is. cc;
   aims_credited = λ pair aim is. cc;

@@ -56,9 +56,11 @@ pub fn generate_knowing<B: Bench, T: Watch>(
     let count = bench.defect_count();
     for place in 0..count {
         let is_untestable = is_marked(untestable, place);
+        work = work.ready(bench, place);
         work = work.take_turn(alloc, bench, place, is_untestable)?;
         watch.reported(place + 1, count);
     }
+    let work = work.catch_up(bench, count);
     Ok(Generated {
         pairs: work.pairs,
         aims: work.aims,

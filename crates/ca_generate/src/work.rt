@@ -1,27 +1,36 @@
 //! The turn of a defect: it is searched for, unless it has a verdict or is known to be untestable.
 
-ghost use Rattle.std.specs.Prelude.{◌≡◌, ◌<◌, ◌^◌, ◌+◌, length, IfOk, IfErr, None, true};
+ghost use Rattle.std.specs.Prelude.{◌≡◌, ◌<◌, ◌≤◌, ◌^◌, ◌+◌, length, IfOk, IfErr, None, true};
 ghost use Rattle.ca_credit.specs.Defects.{StandsIn};
 ghost use Rattle.ca_credit.specs.Listed.{IsFoundAt};
 ghost use Rattle.ca_credit.specs.Table.{verdict_at};
 ghost use Rattle.ca_generate.specs.GenerateFault.{IsCause};
 ghost use Rattle.ca_generate.specs.Known.{IsUntestableAt};
-ghost use Rattle.ca_generate.specs.code.Progress.{WorkStands, IsScreened};
+ghost use Rattle.ca_generate.specs.code.Progress.{IsScreened, StandsAfter, WorkStands};
 
 use crate::bench::Bench;
 use crate::fault::{Aims, GenerateFault};
 use crate::search_end::SearchEnd;
 use ca_base::NoMemory;
-use ca_credit::{Credits, MOST_PAIRS, Verdict};
+use ca_credit::{Credits, LANES, MOST_PAIRS, Verdict, keep_pairs_from};
 use ca_pair::{Pair, Pairs};
 use std::alloc::Global;
 
-/// The verdicts so far, the pairs that are listed, and the aim of each.
+// How many places from one on a pair is tried with at once, at first.
+const FIRST_WINDOW: usize = 1_024;
+
+/// The verdicts so far, the pairs that are listed, and the aim of each. A pair is tried with the defects
+/// before an edge at once, and with those from the edge on later, together with the pairs that come after it;
+/// that was done for the first `credited` pairs.
 #[derive(Drop)]
 pub(crate) struct Work {
     pub(crate) credits: Credits,
     pub(crate) pairs: Pairs,
     pub(crate) aims: Aims,
+    pub(crate) credited: usize,
+    pub(crate) edge: usize,
+    // how far the next edge is
+    pub(crate) window: usize,
 }
 
 impl Work {
@@ -33,7 +42,53 @@ impl Work {
             credits: screen(alloc, bench)?,
             pairs: Pairs::new(alloc),
             aims: Aims::new(alloc),
+            credited: 0,
+            edge: 0,
+            window: FIRST_WINDOW,
         })
+    }
+
+    /// Tries the pairs that were listed since this was done last with the defects from the edge on.
+    pub(crate) fn catch_up<B: Bench>(self, bench: &mut B, turns: usize) -> Self
+        requires few { length (B.task bench.old).defects < 2 ^ 32 }
+        requires stands { WorkStands (B.task bench.old) turns self }
+
+        ensures stands { StandsAfter (B.task bench.old) turns result.credits result.pairs result.aims }
+        ensures credited { result.credited ≡ length result.pairs }
+        ensures task { B.task bench.new ≡ B.task bench.old }
+    {
+        let mut work = self;
+        let count = bench.defect_count();
+        keep_pairs_from(bench, work.pairs.as_slice(), work.credited);
+        for number in work.credited..work.pairs.len() {
+            let pair = &work.pairs.as_slice()[number];
+            work.credits
+                .credit_in(bench, pair, number as u32, work.edge, count);
+        }
+        work.credited = work.pairs.len();
+        work
+    }
+
+    /// Sees to it that the edge is past the next defect, and that not too many pairs wait to be tried with
+    /// the defects past it.
+    pub(crate) fn ready<B: Bench>(self, bench: &mut B, place: usize) -> Self
+        requires within { place < length (B.task bench.old).defects }
+        requires few { length (B.task bench.old).defects < 2 ^ 32 }
+        requires stands { WorkStands (B.task bench.old) place self }
+
+        ensures stands { WorkStands (B.task bench.old) place result }
+        ensures ahead { place < result.edge }
+        ensures task { B.task bench.new ≡ B.task bench.old }
+    {
+        let held = self.pairs.len() - self.credited;
+        if place < self.edge && held < LANES {
+            return self;
+        }
+        let window = next_window(self.window, held);
+        let mut work = self.catch_up(bench, place);
+        work.edge = edge_after(place, window, bench.defect_count());
+        work.window = window;
+        work
     }
 
     /// The turn of the defect at a place, of which may be known that it is untestable.
@@ -47,6 +102,7 @@ impl Work {
         requires within { place < length (B.task bench.old).defects }
         requires few { length (B.task bench.old).defects < 2 ^ 32 }
         requires stands { WorkStands (B.task bench.old) place self }
+        requires ahead { place < self.edge }
         requires known { is_untestable ≡ true → IsUntestableAt (B.task bench.old) place }
 
         ensures ok { IfOk result (WorkStands (B.task bench.old) (place + 1)) }
@@ -76,10 +132,12 @@ impl Work {
         }
     }
 
-    // Lists a pair that was found for the defect at a place, and credits it with all that it detects.
+    // Lists a pair that was found for the defect at a place, and credits it with all before the edge that it
+    // detects.
     fn list<B: Bench>(self, bench: &mut B, place: usize, pair: Pair) -> Result<Self, GenerateFault>
         requires few { length (B.task bench.old).defects < 2 ^ 32 }
         requires stands { WorkStands (B.task bench.old) place self }
+        requires ahead { place < self.edge }
         requires waiting { verdict_at self.credits place ≡ None }
         requires found { IsFoundAt (B.task bench.old) place pair }
         requires stands_in { StandsIn (B.task bench.old).chip ((B.task bench.old).chip_of place) }
@@ -97,14 +155,37 @@ impl Work {
                 credits: _,
                 pairs,
                 aims,
+                credited: _,
+                edge: _,
+                window: _,
             } = work;
             return Err(GenerateFault::TooManyPairs { pairs, aims });
         }
-        work.credits.credit_pair(bench, &pair, number as u32);
+        work.credits
+            .credit_in(bench, &pair, number as u32, 0, work.edge);
         work.pairs.push(pair)?;
         work.aims.push(place as u32)?;
         Ok(work)
     }
+}
+
+// How far the next edge is, after this many pairs were held back: twice as far where there is room for more,
+// and else half as far.
+fn next_window(window: usize, held: usize) -> usize {
+    if held < LANES {
+        window.saturating_mul(2)
+    } else {
+        (window / 2).max(FIRST_WINDOW)
+    }
+}
+
+// An edge past a place, so far away, but within a list.
+fn edge_after(place: usize, window: usize, count: usize) -> usize
+    requires { place < count }
+    ensures past { place < result }
+    ensures within { result ≤ count }
+{
+    place.saturating_add(window).max(place + 1).min(count)
 }
 
 // The table in which each defect that can't be exposed is unexposable, and no other has a verdict.

@@ -1,8 +1,10 @@
 -- What holds while the defects have their turns.
-use Rattle.std.specs.Prelude.{ℕ, ◌≡◌, ◌<◌, ◌≤◌, Bool, List, length, slice_get, Option, Some, None}
+use Rattle.std.specs.Prelude.{ℕ, ◌≡◌, ◌<◌, ◌≤◌, ◌++◌, Bool, List, length, slice_get, Option, Some, None}
+use Rattle.std.specs.List.{All}
 use Rattle.ca_flat.specs.declared.chip_defect.ChipDefect.{ChipDefect}
 use Rattle.ca_flat.specs.declared.token.Token.{Token}
 use Rattle.ca_flat.specs.Chip.{Chip}
+use Rattle.ca_flat.specs.Pair.{bit_count}
 use Rattle.ca_credit.specs.declared.verdict.Verdict.{Verdict}
 use Rattle.ca_credit.specs.declared.verdict.Verdict.TheVariants.{Credited, Unexposable, Untestable, Aborted}
 use Rattle.ca_credit.specs.Defects.{Task, IsDefectAt, IsExposableIn}
@@ -63,13 +65,38 @@ pub record StandsAfter (task : Task) (turns : ℕ) (table : List (Option Verdict
   pub entries : (place : ℕ) (defect : ChipDefect) → IsDefectAt task place defect
       → IsEntry task turns pairs aims place defect (verdict_at table place)
   pub within : length pairs ≤ MOST_PAIRS
+  pub bits : All (λ pair. length pair ≡ bit_count task.chip) pairs
   pub aims_are : AreAims task pairs aims
   pub aims_before : (pair aim : ℕ) → slice_get aims pair ≡ Some aim → aim < turns
   pub aims_credited : (pair aim : ℕ) → slice_get aims pair ≡ Some aim → IsCreditAt table pair aim
 
--- so does the work
+-- the same where the places before an edge were tried with all listed pairs, and those from it on with the
+-- first ones, which are `done`; the edge is past the defects that had their turns
+pub record StandsUpTo (task : Task) (turns edge : ℕ) (done : List (List Bool)) (table : List (Option Verdict))
+    (pairs : List (List Bool)) (aims : List ℕ) : Type 0 where
+  pub as_many : length table ≡ length task.defects
+  pub near : (place : ℕ) (defect : ChipDefect) → place < edge → IsDefectAt task place defect
+      → IsEntry task turns pairs aims place defect (verdict_at table place)
+  pub far : (place : ℕ) (defect : ChipDefect) → edge ≤ place → IsDefectAt task place defect
+      → IsEntry task turns done aims place defect (verdict_at table place)
+  pub ahead : turns ≤ edge
+  pub edge_within : edge ≤ length table
+  pub rest : List (List Bool)
+  pub pairs_are : pairs ≡ done ++ rest
+  pub within : length pairs ≤ MOST_PAIRS
+  pub bits : All (λ pair. length pair ≡ bit_count task.chip) pairs
+  pub aims_are : AreAims task pairs aims
+  pub aims_before : (pair aim : ℕ) → slice_get aims pair ≡ Some aim → aim < turns
+  pub aims_credited : (pair aim : ℕ) → slice_get aims pair ≡ Some aim → IsCreditAt table pair aim
+
+-- so does the work, of whose pairs this many were tried everywhere
+pub record StandsTo (task : Task) (turns count : ℕ) (work : Work) : Type 0 where
+  pub done : List (List Bool)
+  pub count_is : length done ≡ count
+  pub stands : StandsUpTo task turns work.edge done work.credits work.pairs work.aims
+
 abbrev pub WorkStands : Task → ℕ → Work → Type 0
-WorkStands task turns work = StandsAfter task turns work.credits work.pairs work.aims
+WorkStands task turns work = StandsTo task turns work.credited work
 
 -- whether the defect can be exposed is known: where it can, it has no verdict yet, and else it is unexposable
 abbrev pub IsScreenedEntry : Chip → ChipDefect → Option Verdict → Type 0
