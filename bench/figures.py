@@ -125,22 +125,17 @@ KINDS = {"sp": "cells, with resistors too", "v": "netlists", "csv": "tables of s
 
 
 def hostile(program, count):
-    tools, examples = f"{TOP}/tools", f"{TOP}/examples"
+    tools = f"{TOP}/tools"
     rows = [["what", "command", "result", "seconds"]]
-    with tempfile.TemporaryDirectory() as folder:
-        refuse = [f"{tools}/refuse_memory.sh", program]
-        chip = [f"{examples}/cells.sp", f"{examples}/inv.v", "-"]
-        subprocess.run([program, "certify", *chip, "in.stil", "in.cert", "3"], cwd=folder, stdout=subprocess.DEVNULL, check=True)
-        with open(f"{folder}/in.log", "w") as log:
-            log.write("pair,output\n0,z\n")
-        for out, words in [("m.csv", ["matrix", f"{examples}/nand2.sp", "NAND2", "m.csv"]), ("f.sp", ["flatten", *chip, "-", "-", "f.sp"]),
-                           ("p.stil,r.csv", ["atpg", *chip, "p.stil", "r.csv", "3"]), ("g.csv", ["grade", *chip, "in.stil", "g.csv"]),
-                           ("c.csv", ["diagnose", *chip, "in.stil", "in.log", "c.csv"]),
-                           ("p.stil,c.cert", ["certify", *chip, "p.stil", "c.cert", "3"]), ("-", ["verify", *chip, "in.stil", "in.cert"]),
-                           ("p.stil,b.csv", ["bridges", f"{examples}/cells.sp", f"{examples}/c17.v", "-", "g4", "p.stil", "b.csv", "3"]),
-                           ("-", ["make", "3"])]:
-            shown = " ".join(["refuse_memory.sh PROGRAM", out, *[os.path.basename(it) for it in words]])
-            rows.append(["one request for memory refused, each in a run of its own", f"`{shown}`", *timed([*refuse, out, *words], cwd=folder)])
+    began, result = time.time(), ""
+    with subprocess.Popen([f"{tools}/refuse_memory.sh", program], stdout=subprocess.PIPE, text=True) as refuse:
+        for line in refuse.stdout:
+            if line.startswith("  "):
+                # (the words of the command, after its result)
+                shown = f"`{line.strip()}`"
+                rows.append(["one request for memory refused, each in a run of its own", shown, result.strip(), f"{time.time() - began:.0f}"])
+                began = time.time()
+            result = line
     rows.append(["real faults of files and outputs", "`real_faults.sh PROGRAM`", *timed([f"{tools}/real_faults.sh", program])])
     for kind, what in KINDS.items():
         began = time.time()
