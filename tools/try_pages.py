@@ -4,10 +4,11 @@
 usage: tools/try_pages.py PROGRAM [PAGE..]
 
 The pages are README.md and docs/TUTORIAL.md, if none is named, whose commands run in a scratch copy of examples/. Those of docs/REAL_CHIPS.md,
-which takes an hour and some of Debian's packages, run in an empty folder, with `CELLAWARE/` as the top of this repository.
+which takes twenty minutes and some of Debian's packages, run in an empty folder, where CELLAWARE is the top of this repository.
 
 A command is a line that begins with four spaces and `$ `, and goes on as long as a quote is open or a backslash ends it. All commands of a
-page run in one shell. What a command prints are the lines after it that begin with four spaces; a line with `...` stands for the rest. Pictures and packages are left out.
+page run in one shell. What a command prints are the lines after it that begin with four spaces; a line with `...` stands for the rest. Packages and
+the line that says where the clone is are left out, and pictures where gnuplot isn't installed.
 The status is 1 where something differs."""
 import os
 import shutil
@@ -18,7 +19,7 @@ import tempfile
 TOP = os.path.dirname(os.path.dirname(os.path.abspath(__file__)))
 PAGES = ("README.md", "docs/TUTORIAL.md")
 SHOWN, PROMPT, END = "    ", "    $ ", "-- end of what a command prints --"
-LEFT_OUT = ("gnuplot", "apt-get")
+LEFT_OUT = ("apt-get", "CELLAWARE=", *(() if shutil.which("gnuplot") else ("gnuplot",)))
 
 
 def is_open(command):
@@ -79,14 +80,15 @@ def tried(program, page, folder):
     os.makedirs(f"{folder}/bin", exist_ok=True)
     if not os.path.lexists(f"{folder}/bin/cellaware"):
         os.symlink(program, f"{folder}/bin/cellaware")
-    room = dict(os.environ, PATH=f"{folder}/bin:{os.environ['PATH']}")
+        os.symlink(f"{TOP}/tools", f"{folder}/tools")
+    room = dict(os.environ, CELLAWARE=TOP, PATH=f"{folder}/bin:{os.environ['PATH']}")
     with open(f"{TOP}/{page}") as file:
         lines = file.read().split("\n")
     with subprocess.Popen(["bash"], cwd=work, env=room, stdin=subprocess.PIPE, stdout=subprocess.PIPE, stderr=subprocess.STDOUT, text=True) as shell:
         for line, command, wanted in commands(lines):
             if command.startswith(LEFT_OUT):
                 continue
-            printed = printed_by(shell, command.replace("CELLAWARE/", f"{TOP}/"))
+            printed = printed_by(shell, command)
             count += 1
             if not is_printed(wanted, printed if printed != [""] else []):
                 others += 1
