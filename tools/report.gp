@@ -41,7 +41,9 @@ set style histogram rowstacked
 set style fill solid 0.9 border -1
 set boxwidth 0.8
 set xtics rotate by -60 left
-set ylabel "defects"
+# defects or bridges, as the reports say
+what = system("head -n 1 " . ARGV[1] . " | cut -d, -f3") . "s"
+set ylabel what
 set key outside top center horizontal
 set yrange [0:tallest * 1.05]
 do for [k = 1:runs] {
@@ -50,7 +52,7 @@ do for [k = 1:runs] {
 }
 set xtics norotate center autofreq
 set xlabel "listed pairs"
-set ylabel "credited defects"
+set ylabel "credited " . what
 set key off
 set grid ytics
 set yrange [0:most(1, credited) * 1.05]
