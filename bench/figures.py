@@ -1,7 +1,7 @@
 #!/usr/bin/env python3
 """Measures what docs/FIGURES.md shows, and writes each table into that page.
 
-usage: bench/figures.py PROGRAM [matrices|commands|chips|made|certificates|diagnosis|bridges|large|hostile|limits].. [--fuzz COUNT]
+usage: bench/figures.py PROGRAM [matrices|commands|chips|made|certificates|diagnosis|bridges|large|hostile|texts|limits].. [--fuzz COUNT]
 
 PROGRAM is the built program. A table of the page is between a line `<!-- NAME -->` and the next blank line; the names are those above,
 all of them if none is said. The line `<!-- build -->` is followed by the commit and the size of the program. Run it on a quiet machine, with
@@ -124,7 +124,7 @@ KINDS = {"sp": "cells, with resistors too", "v": "netlists", "csv": "tables of s
          "stil": "patterns", "log": "logs of failing outputs", "cert": "certificates"}
 
 
-def hostile(program, count):
+def hostile(program):
     tools = f"{TOP}/tools"
     rows = [["what", "command", "result", "seconds"]]
     began, result = time.time(), ""
@@ -137,14 +137,22 @@ def hostile(program, count):
                 began = time.time()
             result = line
     rows.append(["real faults of files and outputs", "`real_faults.sh PROGRAM`", *timed([f"{tools}/real_faults.sh", program])])
+    return table(rows)
+
+
+def texts(program, count):
+    tools = f"{TOP}/tools"
+    rows = [["what", "command", "result", "seconds"]]
     for kind, what in KINDS.items():
         began = time.time()
         runs = [subprocess.Popen([f"{tools}/fuzz_texts.py", program, str(count // 4), str(seed), kind], stdout=subprocess.PIPE, text=True)
                 for seed in range(1, 5)]
         last = [run.communicate()[0].strip().splitlines()[-1] for run in runs]
-        texts, lacking = (sum(int(it.split()[place]) for it in last) for place in (0, 2))
+        tried, lacking = (sum(int(it.split()[place]) for it in last) for place in (0, 2))
         rows.append([f"{what}, changed at random", f"`fuzz_texts.py PROGRAM {count // 4} SEED {kind}`, seeds 1 to 4",
-                     f"{texts:,} texts, {lacking} without a named answer", f"{time.time() - began:.0f}"])
+                     f"{tried:,} texts, {lacking} without a named answer", f"{time.time() - began:.0f}"])
+    rows.append(["certificates with one false claim, of drawn chips", f"`false_claims.py PROGRAM {count // 2} --seed 2 --chips 100`",
+                 *timed([f"{HERE}/false_claims.py", program, str(count // 2), "--seed", "2", "--chips", "100"])])
     return table(rows)
 
 
@@ -163,7 +171,7 @@ def main(words):
         else:
             names.append(word)
     tables = {"matrices": matrices, "commands": commands, "chips": chips, "made": made, "certificates": certificates,
-              "diagnosis": diagnosis, "bridges": bridges, "large": large, "hostile": lambda it: hostile(it, count), "limits": limits}
+              "diagnosis": diagnosis, "bridges": bridges, "large": large, "hostile": hostile, "texts": lambda it: texts(it, count), "limits": limits}
     commit = printed(["git", "-C", TOP, "log", "-1", "--format=%h", "--", "crates"]).strip()
     found = {"build": [f"The program is that of commit {commit}, {os.path.getsize(program):,} bytes."]}
     found.update({name: tables[name](program) for name in names or tables})
