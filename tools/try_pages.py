@@ -4,7 +4,8 @@
 usage: tools/try_pages.py PROGRAM [PAGE..]
 
 The pages are README.md and docs/TUTORIAL.md, if none is named, whose commands run in a scratch copy of examples/. Those of docs/REAL_CHIPS.md,
-which takes twenty minutes and some of Debian's packages, run in an empty folder, where CELLAWARE is the top of this repository.
+which takes twenty minutes and some of Debian's packages, and of docs/REAL_LIBRARIES.md run in an empty folder, where CELLAWARE is the top
+of this repository.
 
 A command is a line that begins with four spaces and `$ `, and goes on as long as a quote is open or a backslash ends it. All commands of a
 page run in one shell. What a command prints are the lines after it that begin with four spaces; a line with `...` stands for the rest. Packages and
