@@ -2,7 +2,6 @@
 use Rattle.std.proofs.Common.{◌≡◌, ℕ, zero, suc, ◌+◌, ◌<◌, ◌≤◌, List, [], ◌∷◌, length, Bool, true, refl, sym}
 use Rattle.std.proofs.Common.{◌∙◌, ap, subst, arith, Some, None, Option, get_or, get_or-set_same}
 use Rattle.std.proofs.Common.{get_or-set_other}
-use native.Mathlib.Decide.{ℕ_discrete}
 use Rattle.std.specs.Prelude.{slice_get, slice_set}
 use Rattle.ca_flat.specs.declared.chip_defect.ChipDefect.{ChipDefect}
 use Rattle.ca_flat.specs.Chip.{Chip}
@@ -10,8 +9,7 @@ use Rattle.ca_credit.specs.declared.verdict.Verdict.{Verdict}
 use Rattle.ca_credit.specs.declared.verdict.Verdict.TheVariants.{Credited, Unexposable, Untestable, Aborted}
 use Rattle.ca_credit.specs.Defects.{Task, IsDefectAt}
 use Rattle.ca_credit.specs.Table.{known_verdicts, AreAllKnown, verdict_at, is_open, credit_count}
-use Rattle.ca_credit.specs.Table.{IsCreditOrKept, IsAfterPair, CreditsUpTo}
-use Rattle.ca_credit.specs.code.Table.{CreditsOne}
+use Rattle.ca_credit.specs.Table.{IsCreditOrKept, IsAfterPair}
 use Rattle.ca_credit.specs.Table.{CreditsPair, CreditsBlock, Credits}
 use Rattle.ca_credit.proofs.DetectionLemmas.{get_or-other}
 
@@ -96,33 +94,6 @@ not_unknown table verdicts k d known is within none =
     ∙ get_or-other table k None d (known_within table verdicts k known is within) ∙ none in
     let some : (v : Verdict) × (slice_get verdicts k ≡ Some v) = some_within verdicts k within in
     cc
-
--- before the first defect's turn
-pub credits_begin : (task : Task) (pair : List Bool) (number : ℕ) (table : List (Option Verdict))
-    → CreditsUpTo task pair number 0 table table
-credits_begin task pair number table = record {
-  as_many = refl;
-  each = λ place defect below is. absurd (omega arith);
-  others = λ place from. refl;
-}
-
--- what one more defect's turn makes of the table
-pub credits_more : (task same : Task) (pair : List Bool) (number count : ℕ) (given : Bool)
-    (old middle new : List (Option Verdict)) → same ≡ task → CreditsUpTo task pair number count old middle
-    → CreditsOne same pair number count given middle new → CreditsUpTo task pair number (count + 1) old new
-credits_more task same pair number count given old middle new same_is before one_of =
-    let one = subst (λ (x : Task). CreditsOne x pair number count given middle new) same_is one_of in
-    record {
-      as_many = one.as_many ∙ before.as_many;
-      each = λ place defect below is. elim (ℕ_discrete place count) [
-        | yes e ↦ subst (λ (k : ℕ). IsAfterPair (task.chip_of k) pair number defect (verdict_at old k) (verdict_at new k)) (sym e)
-            (subst (λ (v : Option Verdict). IsAfterPair (task.chip_of count) pair number defect v (verdict_at new count)) (before.others count (omega arith))
-            (one.here defect (subst (λ (k : ℕ). IsDefectAt task k defect) e is)))
-        | no differ ↦ subst (λ (v : Option Verdict). IsAfterPair (task.chip_of place) pair number defect (verdict_at old place) v) (sym (one.others place differ))
-            (before.each place defect (let far : ¬ (place ≡ count) = differ in omega arith) is)
-      ];
-      others = λ place from. one.others place (λ e. absurd (omega arith)) ∙ before.others place (omega arith);
-    }
 
 -- there are at most as many credits as defects
 pub credit_count_within : (table : List (Option Verdict)) → credit_count table ≤ length table

@@ -27,8 +27,8 @@ pub fn keep_pairs<S: Simulator>(sim: &mut S, pairs: &[Pair], place: usize)
     }
 }
 
-/// Keeps the pairs of the list from this place on in lanes, `LANES` of them, or all where fewer are left: each
-/// has the lane of its place, counted by `LANES`. The bits and the aim of the simulator stay.
+/// Keeps the pairs of the list from this place on in lanes, `LANES` of them, or all where fewer are left:
+/// each has the lane of its place, counted by `LANES`. The bits and the aim of the simulator stay.
 pub fn keep_pairs_from<S: Simulator>(sim: &mut S, pairs: &[Pair], from: usize)
     requires within { from ≤ length pairs.now }
     requires bits { All (λ pair. length pair ≡ bit_count (S.task sim.old).chip) pairs.now }

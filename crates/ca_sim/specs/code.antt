@@ -4,6 +4,7 @@ pub mod Current
 pub mod Changes
 pub mod Marking
 pub mod Network
+pub mod Loaded
 pub mod Networks
 pub mod Cache
 pub mod Cells

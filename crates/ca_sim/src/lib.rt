@@ -6,6 +6,7 @@ mod bits;
 mod cache;
 mod cells;
 mod laws;
+mod loaded;
 mod net_waves;
 mod network;
 mod networks;

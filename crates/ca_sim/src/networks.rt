@@ -7,6 +7,7 @@ ghost use Rattle.ca_flat.specs.declared.chip_defect.ChipDefect.{ChipDefect};
 
 use crate::bits::Bits;
 use crate::cells::Cells;
+use crate::loaded::Loaded;
 use crate::network::Network;
 use crate::waves::Waves;
 use ca_flat::ChipDefect;
@@ -29,6 +30,7 @@ impl Networks {
     ghost use Rattle.ca_sim.specs.code.Network.{CountsDue, IsReady, IsUnderway};
     ghost use Rattle.ca_sim.specs.code.Networks.{AreUnderway, AreAtRest, AreReady, MakesReadersDue};
     ghost use Rattle.ca_sim.specs.code.Current.{AreUnset};
+    ghost use Rattle.ca_sim.specs.code.Loaded.{AreLoaded};
     ghost use Rattle.ca_flat.specs.Codes.{unset_pair};
 
     // Gives a chip input two bits, and its net the wave of these in the good network alone.
@@ -90,29 +92,37 @@ impl Networks {
         }
     }
 
-    /// Gives all chip inputs their bits, and evaluates the instances that are due after that. The faulty
-    /// network takes over the waves of the good one, so that only what its defect changes is evaluated there.
+    /// Gives all chip inputs their bits, and evaluates the instances that are due after that: those that see
+    /// other bits than under the pair that was loaded last, whose waves are there. The faulty network takes
+    /// over the waves of the good one, so that only what its defect changes is evaluated there.
     pub(crate) fn load<B: Bits>(
         &mut self,
         chip: &View,
         aim: Option<ChipDefect>,
         bits: &B,
+        loaded: &mut Loaded,
         cells: &mut Cells,
     )
         requires aim { IsAim chip.now.core (place_in chip.now.ranks) aim }
         requires count { length (B.bits bits.now) ≡ bit_count chip.now.core }
         requires rest { AreAtRest chip.now.core (place_in chip.now.ranks) aim self.old }
+        requires loaded { AreLoaded chip.now.core loaded.old }
         requires cells { AreCells chip.now.core (place_in chip.now.ranks)
             (cell_number chip.now.chip) cells.old }
 
         ensures bits { self.new.bits ≡ B.bits bits.now }
+        ensures loaded { AreLoaded chip.now.core loaded.new }
         ensures rest { AreAtRest chip.now.core (place_in chip.now.ranks) aim self.new }
         ensures cells { AreCells chip.now.core (place_in chip.now.ranks)
             (cell_number chip.now.chip) cells.new }
     {
         chip.linked();
+        copy(&loaded.bits, &mut self.bits);
+        self.good.waves.take_over(&loaded.waves);
         self.feed_all(chip, bits);
         self.good.settle(chip, None, None, cells);
+        copy(&self.bits, &mut loaded.bits);
+        loaded.waves.take_over(&self.good.waves);
         self.faulty.waves.take_over(&self.good.waves);
         self.faulty.turn(chip, aim);
         self.faulty.settle(chip, aim, Some(&self.good), cells);
@@ -211,5 +221,15 @@ fn forget(bits: &mut State)
 {
     for bit in 0..bits.len() {
         bits.set(bit, Trit::X);
+    }
+}
+
+// Takes over values.
+fn copy(from: &State, into: &mut State)
+    requires { length into.old ≡ length from.now }
+    ensures { into.new ≡ from.now }
+{
+    for bit in 0..into.len() {
+        into.set(bit, from.get(bit));
     }
 }

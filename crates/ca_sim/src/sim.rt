@@ -6,6 +6,7 @@ ghost use Rattle.ca_sim.specs.Seen.{value_of};
 
 use crate::bits::Bits;
 use crate::cells::Cells;
+use crate::loaded::Loaded;
 use crate::net_waves::NetWaves;
 use crate::network::Network;
 use crate::networks::Networks;
@@ -26,6 +27,7 @@ pub struct Sim<'a> {
     networks: Networks,
     // the waves of the good network while no bit is set
     unset: Waves,
+    loaded: Loaded,
     cells: Cells,
     aimed: u64,
 }
@@ -52,7 +54,7 @@ impl<'a> Model for Sim<'a> {
     } };
 
     ghost invariant = { λ sim. IsKept sim.chip.now.core (place_in sim.chip.now.ranks)
-        (cell_number sim.chip.now.chip) sim.aim sim.networks sim.unset sim.cells };
+        (cell_number sim.chip.now.chip) sim.aim sim.networks sim.unset sim.loaded sim.cells };
 }
 
 impl<'a> Sim<'a> {
@@ -74,12 +76,17 @@ impl<'a> Sim<'a> {
         let mut good = Network::reserve(alloc, chip)?;
         good.settle(chip, None, None, &mut cells);
         let unset = good.waves.copy(alloc)?;
+        let loaded = Loaded {
+            bits: State::unknown(alloc, 2 * chip.input_count())?,
+            waves: good.waves.copy(alloc)?,
+        };
         let faulty = good.copy(alloc, chip)?;
         Ok(Sim {
             chip,
             aim: None,
             networks: Networks { bits, good, faulty },
             unset,
+            loaded,
             cells: cells.counted_anew(),
             aimed: 0,
         })
@@ -114,7 +121,8 @@ impl<'a> Sim<'a> {
         self.networks.settle(chip, self.aim, &mut self.cells);
     }
 
-    /// Gives all bits their values, and evaluates the instances that are due after that.
+    /// Gives all bits their values, and evaluates the instances that see other ones than after the call
+    /// before: bits that were set or unset in between cost nothing.
     pub fn load<B: Bits>(&mut self, bits: &B)
         requires { length (B.bits bits.now) ≡ length self.old.seen.pair }
 
@@ -122,7 +130,8 @@ impl<'a> Sim<'a> {
         ensures kept { KeepsAim self.old self.new }
     {
         let chip = self.chip;
-        self.networks.load(chip, self.aim, bits, &mut self.cells);
+        self.networks
+            .load(chip, self.aim, bits, &mut self.loaded, &mut self.cells);
     }
 
     /// Unsets all bits.

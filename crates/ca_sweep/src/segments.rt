@@ -1,6 +1,7 @@
 //! Parts of sweeps, which are kept while the good values stay.
 
-ghost use Rattle.std.specs.Prelude.{ℕ, ◌≡◌, ◌+◌, ◌*◌, ◌^◌, ◌<◌, ◌≤◌, length, slice_index_or, IfOk, IfSome, None};
+ghost use Rattle.std.specs.Prelude.{ℕ, ◌≡◌, ◌+◌, ◌*◌, ◌^◌, ◌<◌, ◌≤◌, length, slice_index_or};
+ghost use Rattle.std.specs.Prelude.{IfOk, IfSome, None};
 ghost use Rattle.ca_net.specs.declared.trit.Trit.{Trit};
 ghost use Rattle.ca_flat.specs.Chip.{Chip, count_of};
 ghost use Rattle.ca_sweep.specs.code.Segments.{AreSegments, IsOfAge, IsSegment};

@@ -9,13 +9,16 @@ use Rattle.ca_sim.specs.code.Cells.{AreCells}
 use Rattle.ca_sim.specs.declared.networks.Networks.{Networks}
 use Rattle.ca_sim.specs.code.Networks.{AreAtRest}
 use Rattle.ca_sim.specs.code.Current.{AreUnset}
+use Rattle.ca_sim.specs.declared.loaded.Loaded.{Loaded}
+use Rattle.ca_sim.specs.code.Loaded.{AreLoaded}
 
--- both networks have the waves of the bits, those without any are kept, and the rooms are those of the chip's
--- cells
+-- both networks have the waves of the bits, those without any and those of the pair that was loaded last are
+-- kept, and the rooms are those of the chip's cells
 pub record IsKept (chip : Chip) (place_of number_of : ℕ → ℕ) (aim : Option ChipDefect) (nets : Networks)
-    (unset : List Wave) (cells : Cells) : Type 0 where
+    (unset : List Wave) (loaded : Loaded) (cells : Cells) : Type 0 where
   pub linked : IsLinked chip place_of number_of
   pub aim_is : IsAim chip place_of aim
   pub rest : AreAtRest chip place_of aim nets
   pub unset_are : AreUnset chip unset
+  pub loaded_are : AreLoaded chip loaded
   pub rooms : AreCells chip place_of number_of cells

@@ -111,7 +111,8 @@ pub record IsOfAge (slot : Option Aged) (age : ℕ) (segment : Segment) : Type 0
   pub segment_is : aged.segment ≡ segment
 
 -- no part is of an age to come, and those of this age say what is so
-pub record AreSegments (chip : Chip) (place_of : ℕ → ℕ) (goods : ℕ → Trit) (segments : Segments) : Type 0 where
+pub record AreSegments (chip : Chip) (place_of : ℕ → ℕ) (goods : ℕ → Trit) (segments : Segments)
+    : Type 0 where
   pub room : length segments.slots.items ≡ 4 * count_of chip
   pub ages : AreAges segments.slots.items segments.age
   pub each : (u : ℕ) (flips : Flips) (segment : Segment)

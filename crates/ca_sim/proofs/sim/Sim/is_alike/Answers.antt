@@ -17,10 +17,11 @@ returns-in-Some-clause-alike c alike =
     c.requires in
     subst (λ (sim : Simulator). IsExact (aimed_anew sim.seen c.args.defect)) c.self.view_is
     (kept_is_exact core places (place_in places) (cell_number inside.chip.now.chip) (Some c.args.defect) inside.networks
-    inside.unset inside.cells (record {
+    inside.unset inside.loaded inside.cells (record {
       linked = kept.linked;
       aim_is = aim_is;
       rest = c.is_alike.ensures.rest alike;
       unset_are = kept.unset_are;
+      loaded_are = kept.loaded_are;
       rooms = kept.rooms;
     }))

@@ -10,4 +10,4 @@ pub returns : goal.returns
 returns c =
     subst (λ (sim : Simulator). IsExact sim.seen) c.self.view_is
     (kept_is_exact c.self.inside.chip.now.core c.self.inside.chip.now.ranks (place_in c.self.inside.chip.now.ranks)
-    (cell_number c.self.inside.chip.now.chip) c.self.inside.aim c.self.inside.networks c.self.inside.unset c.self.inside.cells c.self.invariant)
+    (cell_number c.self.inside.chip.now.chip) c.self.inside.aim c.self.inside.networks c.self.inside.unset c.self.inside.loaded c.self.inside.cells c.self.invariant)

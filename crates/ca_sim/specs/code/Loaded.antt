@@ -1,0 +1,11 @@
+-- What only proofs of code cite: what is kept of the pair that was loaded last.
+use Rattle.std.specs.Prelude.{◌≡◌, length, None}
+use Rattle.ca_flat.specs.Chip.{Chip}
+use Rattle.ca_flat.specs.Pair.{bit_count}
+use Rattle.ca_sim.specs.declared.loaded.Loaded.{Loaded}
+use Rattle.ca_sim.specs.code.Current.{IsSimulated, none_due}
+
+-- the waves are those of the bits
+pub record AreLoaded (chip : Chip) (loaded : Loaded) : Type 0 where
+  pub count : length loaded.bits ≡ bit_count chip
+  pub simulated : IsSimulated chip None loaded.bits none_due loaded.waves
