@@ -4,6 +4,7 @@ ghost use Rattle.ca_guide.specs.Seen.{Covers};
 
 use crate::cone::Cone;
 use crate::goals::Goals;
+use crate::past::Past;
 use crate::plan::Plan;
 use crate::prices::Prices;
 use crate::route::Route;
@@ -45,6 +46,7 @@ pub struct CheapestWay<'a> {
     route: Route,
     aims: Goals,
     tries: Tries,
+    past: Past,
     // the defect of the rows, and the instance of the cone
     defect: Option<ChipDefect>,
     part: Option<u32>,
@@ -66,6 +68,7 @@ impl<'a> CheapestWay<'a> {
             route: Route::reserve(alloc, &plan, &prices)?,
             aims: Goals::reserve(alloc, plan.net_count().saturating_add(MOST_ROW_GOALS))?,
             tries: Tries::reserve(alloc, plan.input_count().saturating_mul(2))?,
+            past: Past::reserve(alloc)?,
             plan,
             prices,
             defect: None,
@@ -79,6 +82,7 @@ impl<'a> CheapestWay<'a> {
             return;
         }
         self.defect = Some(defect);
+        self.past.turn_to(defect.instance, rows);
         self.aims.clear();
         self.rows
             .find(rows, self.plan.inputs(defect.instance).len());
@@ -206,19 +210,27 @@ impl Choice for CheapestWay<'_> {
     ) -> Proposal {
         let sight = GuideSight { guide, chip, waves };
         self.turn_to(defect, rows);
+        if let Some(before) = self.past.next() {
+            if sight.is_wanted(usize::from(before.bit)) {
+                return before;
+            }
+        }
         self.turn_to_cone(defect.instance);
-        match self.bit(&sight, defect.instance) {
+        let found = match self.bit(&sight, defect.instance) {
             Some(found) => proposal(found),
             None => match twin(&sight, self.plan.input_count()) {
                 Some(found) => proposal(found),
                 None => none(),
             },
-        }
+        };
+        self.past.keep(found, self.tries.was_given_up());
+        found
     }
 
     fn begin(&mut self) {
         self.aims.clear();
         self.tries.begin();
+        self.past.begin();
     }
 
     fn attempt<V: NetWaves>(
@@ -229,11 +241,14 @@ impl Choice for CheapestWay<'_> {
         rows: &Rows,
         defect: ChipDefect,
     ) -> Attempt {
+        self.turn_to(defect, rows);
+        if self.past.is_hopeless() {
+            return Attempt::GiveUp;
+        }
         if let Some(next) = self.tries.turned() {
             return next;
         }
         let sight = GuideSight { guide, chip, waves };
-        self.turn_to(defect, rows);
         match self.next_bit(&sight, defect.instance) {
             Some(found) => self.tries.set(found),
             None => {

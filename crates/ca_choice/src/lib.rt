@@ -13,6 +13,7 @@ mod followed;
 mod goal;
 mod goals;
 mod outlets;
+mod past;
 mod plan;
 mod points;
 mod prices;

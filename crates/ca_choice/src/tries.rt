@@ -33,6 +33,8 @@ pub(crate) struct Tries {
     waits: u32,
     has_begun: bool,
     is_given_up: bool,
+    // whether the attempt before came to nothing, and wasn't left out
+    was_given_up: bool,
 }
 
 impl Tries {
@@ -54,11 +56,13 @@ impl Tries {
             waits: 0,
             has_begun: false,
             is_given_up: false,
+            was_given_up: false,
         })
     }
 
     /// Begins an attempt. The more of those before came to nothing, the less it may turn back.
     pub(crate) fn begin(&mut self) {
+        self.was_given_up = self.is_given_up && self.waits == 0;
         if self.has_begun {
             self.note();
         }
@@ -80,6 +84,11 @@ impl Tries {
         } else {
             self.fails = 0;
         }
+    }
+
+    /// Whether the attempt before this one came to nothing, and wasn't left out.
+    pub(crate) fn was_given_up(&self) -> bool {
+        self.was_given_up
     }
 
     /// Sets a bit.
