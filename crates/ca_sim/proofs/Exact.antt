@@ -1,5 +1,5 @@
 -- Where no instance is due, the waves are those of the flat network.
-use Rattle.std.proofs.Common.{◌≡◌, ℕ, zero, suc, ◌+◌, ◌<◌, List, ◌∷◌, length, Option, sym, ◌∙◌, ap, arith}
+use Rattle.std.proofs.Common.{◌≡◌, ℕ, zero, suc, ◌+◌, ◌<◌, List, ◌∷◌, length, Option, refl, sym, ◌∙◌, ap, arith}
 use Rattle.ca_net.specs.declared.trit.Trit.{Trit}
 use Rattle.ca_net.specs.declared.trit.Trit.TheVariants.{Zero, One, X}
 use Rattle.ca_net.specs.declared.wave.Wave.{Wave}
@@ -12,7 +12,7 @@ use Rattle.ca_parts.proofs.RisingLimits.{limits_exist_lem}
 use Rattle.ca_defect.specs.Exposes.{pin_vector}
 use Rattle.ca_response.specs.Outputs.{wave_in, output_node}
 use Rattle.ca_flat.specs.declared.chip_defect.ChipDefect.{ChipDefect}
-use Rattle.ca_flat.specs.Chip.{Chip, cell_at, inputs_at, outputs_at, net_of, output_net, count_of}
+use Rattle.ca_flat.specs.Chip.{Chip, cell_at, inputs_at, outputs_at, net_of, output_net, count_of, Drives}
 use Rattle.ca_flat.specs.Flat.{circuit_in, place, flat}
 use Rattle.ca_flat.specs.Pair.{flat_vector}
 use Rattle.ca_flat.specs.Pair.{first_vector, middle_vector, last_vector, NetEndsAt}
@@ -25,9 +25,9 @@ use Rattle.ca_flat.proofs.NetInduction.{net_induction}
 use Rattle.ca_flat.proofs.InstanceWaves.{at_instance, output_value, rail_value, input_wave, part_limits}
 use Rattle.ca_flat.proofs.InstanceWaves.{ends_last, last_ends}
 use Rattle.ca_table.specs.Gives.{wave_at}
-use Rattle.ca_sim.specs.code.Current.{input_waves, output_waves, IsSimulated}
+use Rattle.ca_sim.specs.Current.{input_waves, output_waves, IsCurrent, IsDrivenIn, IsSimulated}
 use Rattle.ca_flat.specs.Simulation.{IsFlattened}
-use Rattle.ca_sim.specs.code.Current.{none_due}
+use Rattle.ca_sim.specs.Current.{none_due}
 use Rattle.ca_sim.specs.Laws.{DefiniteLastIsEnd, WavesAreThere}
 use Rattle.ca_sim.specs.Seen.{AreNetWaves}
 use Rattle.ca_sim.proofs.LimitLemmas.{SameInputs, limits_over, at_first_inputs}
@@ -60,40 +60,53 @@ module _ (chip : Chip) (rank : ℕ → ℕ) (o : Option ChipDefect) (is : IsFlat
   output_at u output within = wave_at-waves_from (output_net chip u) waves 0 (outputs_at chip u) output within
       ∙ ap (λ k. wave_at waves (output_net chip u k)) (let e : 0 + output ≡ output = omega arith in e)
 
-  module _ (sim : IsSimulated chip o pair none_due waves) where
-    step : (u : ℕ) → u < count_of chip → ((pin : ℕ) → pin < inputs_at chip u → wave_at waves (net_of chip u pin) ≡ wave_of flat_waves (net_of chip u pin))
-        → (output : ℕ) → output < outputs_at chip u → wave_at waves (output_net chip u output) ≡ wave_of flat_waves (output_net chip u output)
-    step u lt pins output within =
-        let current = sim.current u lt (λ due. due) in
-        let own : List Trit → List Trit = at_instance chip rank o is u in
-        let part = part_limits chip rank o is pair flat_waves u lt in
-        let shown = λ (pin : ℕ) (k : pin < inputs_at chip u). sym (pins pin k) ∙ sym (input_at u pin k) in
-        let limits = limits_over (circuit_in chip o u) _ _ _ _ _ _ (own flat_waves.first) (own flat_waves.middle) (own flat_waves.last)
-        (same_inputs u (firsts (input_waves chip waves u)) _ flat_waves.first lt flat_waves.limits.is_first.fixed.inputs
-        (λ pin k. ap (λ (w : Wave). w.first) (shown pin k) ∙ sym (value_at-firsts (input_waves chip waves u) pin)))
-        (same_inputs u (mids (input_waves chip waves u)) _ flat_waves.middle lt flat_waves.limits.is_middle.held.inputs
-        (λ pin k. ap (λ (w : Wave). w.mid) (shown pin k) ∙ sym (value_at-mids (input_waves chip waves u) pin)))
-        (same_inputs u (lasts (input_waves chip waves u)) _ flat_waves.last lt flat_waves.limits.is_last.fixed.inputs
-        (λ pin k. ap (λ (w : Wave). w.last) (shown pin k) ∙ sym (value_at-lasts (input_waves chip waves u) pin)))
-        part in
-        let first_is = output_value chip rank o is u output flat_waves.first lt within in
-        let middle_is = output_value chip rank o is u output flat_waves.middle lt within in
-        let last_is = output_value chip rank o is u output flat_waves.last lt within in
-        let given : wave_at (output_waves chip waves u) output ≡ wave_in (own flat_waves.first) (own flat_waves.middle) (own flat_waves.last) (output_node (cell_at chip u) output) =
-        current.each (own flat_waves.first) (own flat_waves.middle) (own flat_waves.last) limits output within in
-        let net_is : wave_in (own flat_waves.first) (own flat_waves.middle) (own flat_waves.last) (output_node (cell_at chip u) output) ≡ wave_of flat_waves (output_net chip u output) = cc in
-        sym (output_at u output within) ∙ given ∙ net_is
+  -- an instance that is current and has the waves of the flat network at its pins has them at its outputs
+  step : (u : ℕ) → u < count_of chip → IsCurrent chip o waves u → ((pin : ℕ) → pin < inputs_at chip u → wave_at waves (net_of chip u pin) ≡ wave_of flat_waves (net_of chip u pin))
+      → (output : ℕ) → output < outputs_at chip u → wave_at waves (output_net chip u output) ≡ wave_of flat_waves (output_net chip u output)
+  step u lt current pins output within =
+      let own : List Trit → List Trit = at_instance chip rank o is u in
+      let part = part_limits chip rank o is pair flat_waves u lt in
+      let shown = λ (pin : ℕ) (k : pin < inputs_at chip u). sym (pins pin k) ∙ sym (input_at u pin k) in
+      let limits = limits_over (circuit_in chip o u) _ _ _ _ _ _ (own flat_waves.first) (own flat_waves.middle) (own flat_waves.last)
+      (same_inputs u (firsts (input_waves chip waves u)) _ flat_waves.first lt flat_waves.limits.is_first.fixed.inputs
+      (λ pin k. ap (λ (w : Wave). w.first) (shown pin k) ∙ sym (value_at-firsts (input_waves chip waves u) pin)))
+      (same_inputs u (mids (input_waves chip waves u)) _ flat_waves.middle lt flat_waves.limits.is_middle.held.inputs
+      (λ pin k. ap (λ (w : Wave). w.mid) (shown pin k) ∙ sym (value_at-mids (input_waves chip waves u) pin)))
+      (same_inputs u (lasts (input_waves chip waves u)) _ flat_waves.last lt flat_waves.limits.is_last.fixed.inputs
+      (λ pin k. ap (λ (w : Wave). w.last) (shown pin k) ∙ sym (value_at-lasts (input_waves chip waves u) pin)))
+      part in
+      let first_is = output_value chip rank o is u output flat_waves.first lt within in
+      let middle_is = output_value chip rank o is u output flat_waves.middle lt within in
+      let last_is = output_value chip rank o is u output flat_waves.last lt within in
+      let given : wave_at (output_waves chip waves u) output ≡ wave_in (own flat_waves.first) (own flat_waves.middle) (own flat_waves.last) (output_node (cell_at chip u) output) =
+      current.each (own flat_waves.first) (own flat_waves.middle) (own flat_waves.last) limits output within in
+      let net_is : wave_in (own flat_waves.first) (own flat_waves.middle) (own flat_waves.last) (output_node (cell_at chip u) output) ≡ wave_of flat_waves (output_net chip u output) = cc in
+      sym (output_at u output within) ∙ given ∙ net_is
 
-    exact_at : (net : ℕ) → net < length chip.nets → wave_at waves net ≡ wave_of flat_waves net
-    exact_at = net_induction chip rank is.chip_is (λ net. wave_at waves net ≡ wave_of flat_waves net)
-        (λ net within kind. sim.inputs net within kind ∙ sym (input_wave chip rank o is pair flat_waves net within kind))
-        step
+  -- A set of instances, each of which is current, and which has with an instance those that drive its input
+  -- nets: a net that none but these drives has the wave of the flat network.
+  module _ (due In : ℕ → Type 0) (sim : IsSimulated chip o pair due waves) (current : (u : ℕ) → u < count_of chip → In u → due u → ⊥)
+      (closed : (u pin : ℕ) → u < count_of chip → In u → pin < inputs_at chip u → IsDrivenIn chip In (net_of chip u pin)) where
+    exact_in : (net : ℕ) → net < length chip.nets → IsDrivenIn chip In net → wave_at waves net ≡ wave_of flat_waves net
+    exact_in = net_induction chip rank is.chip_is (λ net. IsDrivenIn chip In net → wave_at waves net ≡ wave_of flat_waves net)
+        (λ net within kind driven. sim.inputs net within kind ∙ sym (input_wave chip rank o is pair flat_waves net within kind))
+        (λ u lt pins output within driven.
+        let inside = driven (record { instance = u; output = output; known = lt; within = within; on = refl }) in
+        step u lt (sim.current u lt (current u lt inside)) (λ pin k. pins pin k (closed u pin lt inside k)) output within)
+
+pub exact_where_driven : (chip : Chip) (rank : ℕ → ℕ) (o : Option ChipDefect) (pair : List Trit) (waves : List Wave) (due In : ℕ → Type 0)
+    → IsFlattened chip rank o → IsSimulated chip o pair due waves → ((u : ℕ) → u < count_of chip → In u → due u → ⊥)
+    → ((u pin : ℕ) → u < count_of chip → In u → pin < inputs_at chip u → IsDrivenIn chip In (net_of chip u pin))
+    → (flat_waves : FlatWaves chip o pair) (net : ℕ) → net < length chip.nets → IsDrivenIn chip In net → wave_at waves net ≡ wave_of flat_waves net
+exact_where_driven chip rank o pair waves due In is sim current closed flat_waves =
+    exact_in chip rank o is pair waves flat_waves due In sim current closed
 
 pub waves_are_exact_lem : (chip : Chip) (rank : ℕ → ℕ) (o : Option ChipDefect) (pair : List Trit) (waves : List Wave) → IsFlattened chip rank o
     → IsSimulated chip o pair none_due waves → AreNetWaves chip o pair waves
 waves_are_exact_lem chip rank o pair waves is sim = record {
   count = sim.count;
-  exact = λ flat_waves net within. exact_at chip rank o is pair waves flat_waves sim net within;
+  exact = λ flat_waves net within. exact_where_driven chip rank o pair waves none_due (λ u. Unit {0}) is sim
+      (λ u lt all due. due) (λ u pin lt all k drives. tt) flat_waves net within (λ drives. tt);
 }
 
 pub waves_are_there_lem : WavesAreThere

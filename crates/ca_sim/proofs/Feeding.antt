@@ -12,10 +12,10 @@ use Rattle.ca_flat.specs.declared.chip_defect.ChipDefect.{ChipDefect}
 use Rattle.ca_flat.specs.Chip.{Chip, count_of, net_kind}
 use Rattle.ca_flat.specs.Pair.{input_value, constant_value, net_value}
 use Rattle.ca_table.specs.Gives.{wave_at}
-use Rattle.ca_sim.specs.code.Current.{pair_wave, IsSimulated}
+use Rattle.ca_sim.specs.Current.{pair_wave, IsSimulated}
 use Rattle.ca_view.specs.Linked.{IsPinned, IsLinked}
 use Rattle.ca_sim.specs.declared.network.Network.{Network}
-use Rattle.ca_sim.specs.code.Network.{IsDue, IsPut, IsFedAt, IsReady}
+use Rattle.ca_sim.specs.Network.{IsDue, IsPut, IsFedAt, IsReady}
 use Rattle.ca_sim.proofs.StepLemmas.{fed}
 use Rattle.ca_sim.proofs.Putting.{reader_placed}
 

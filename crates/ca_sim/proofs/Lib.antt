@@ -3,6 +3,7 @@ pub mod WaveLemmas
 pub mod Exact
 pub mod StepLemmas
 pub mod Marking
+pub mod OutputLemmas
 pub mod Putting
 pub mod CellLemmas
 pub mod Settling

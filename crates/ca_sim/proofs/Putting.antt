@@ -7,11 +7,11 @@ use Rattle.ca_net.specs.declared.wave.Wave.{Wave}
 use Rattle.ca_flat.specs.Chip.{Chip, outputs_at, net_of, output_net, count_of, Drives}
 use Rattle.ca_table.specs.Gives.{unknown_wave, wave_at}
 use Rattle.ca_view.specs.Linked.{IsLinked, IsPlaced, IsPlace, Reads}
-use Rattle.ca_sim.specs.code.Changes.{HasReadersDue}
+use Rattle.ca_sim.specs.Changes.{HasReadersDue}
 use Rattle.ca_sim.specs.declared.network.Network.{Network}
 use Rattle.ca_places.specs.PlaceSet.{Has, HoldsUpTo}
-use Rattle.ca_sim.specs.code.Marking.{IsMarked}
-use Rattle.ca_sim.specs.code.Network.{IsDue, IsPut, IsWrittenOut}
+use Rattle.ca_sim.specs.Marking.{IsMarked}
+use Rattle.ca_sim.specs.Network.{IsDue, IsPut, IsWrittenOut}
 
 -- a net is given another wave
 pub put_new : (chip : Chip) (place_of : ℕ → ℕ) (net : ℕ) (wave : Wave) (old new : Network) → net < length old.waves → new.waves ≡ slice_set old.waves net wave

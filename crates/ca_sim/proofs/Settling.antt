@@ -10,13 +10,13 @@ use Rattle.ca_flat.specs.declared.chip_defect.ChipDefect.{ChipDefect}
 use Rattle.ca_flat.specs.Chip.{Chip, cell_at, count_of}
 use Rattle.ca_flat.specs.Flat.{circuit_in}
 use Rattle.ca_table.specs.Gives.{Gives}
-use Rattle.ca_sim.specs.code.Current.{input_waves, IsSimulated}
-use Rattle.ca_sim.specs.code.Current.{none_due}
+use Rattle.ca_sim.specs.Current.{input_waves, IsSimulated}
+use Rattle.ca_sim.specs.Current.{none_due}
 use Rattle.ca_view.specs.Linked.{IsLinked, IsPlaced}
 use Rattle.ca_places.specs.declared.place_set.PlaceSet.{PlaceSet}
 use Rattle.ca_sim.specs.declared.network.Network.{Network}
 use Rattle.ca_places.specs.PlaceSet.{Has, HoldsUpTo, IsNext}
-use Rattle.ca_sim.specs.code.Network.{IsDue, IsReady, NoneBefore, IsWrittenOut, IsSettled}
+use Rattle.ca_sim.specs.Network.{IsDue, IsReady, NoneBefore, IsWrittenOut, IsSettled}
 use Rattle.ca_sim.proofs.StepLemmas.{written_waves, evaluated, more_due}
 use Rattle.ca_sim.proofs.WaveLemmas.{each_wave}
 

@@ -10,7 +10,7 @@ use Rattle.std.proofs.lemmas.List.{get_or_past}
 use Rattle.std.proofs.lemmas.List.Elements.{All-from_get_or, All-contains, Contains-get_or}
 use Rattle.ca_net.specs.Wave.{IsWave}
 use Rattle.ca_table.specs.Gives.{unknown_wave, wave_at}
-use Rattle.ca_sim.specs.code.Current.{waves_from}
+use Rattle.ca_sim.specs.Current.{waves_from}
 
 module _ (net : ℕ → ℕ) (waves : List Wave) where
   pub length-waves_from : (pin count : ℕ) → length (waves_from net waves pin count) ≡ count

@@ -1,9 +1,5 @@
 -- Words of the code: what its invariants and private contracts say. No public claim rests on them.
 pub mod Simulator
-pub mod Current
-pub mod Changes
-pub mod Marking
-pub mod Network
 pub mod Loaded
 pub mod Networks
 pub mod Cache

@@ -16,4 +16,6 @@ mod waves;
 pub use bits::Bits;
 pub use laws::{definite_last_is_end, waves_are_there};
 pub use net_waves::NetWaves;
+pub use network::{Network, mark_readers};
 pub use sim::Sim;
+pub use waves::Waves;

@@ -24,16 +24,17 @@ use std::alloc::Global;
 /// A wave for each net, and the places in the order whose instances are due.
 #[derive(Drop, Debug)]
 pub struct Network {
-    pub(crate) waves: Waves,
-    pub(crate) due: PlaceSet,
+    pub waves: Waves,
+    pub due: PlaceSet,
 }
 
 impl Network {
     ghost use Rattle.ca_places.specs.PlaceSet.{Has, HoldsUpTo};
-    ghost use Rattle.ca_sim.specs.code.Network.{IsPut, IsWrittenOut, IsFedAt, IsTurned, IsReady, IsSettled};
-    ghost use Rattle.ca_sim.specs.code.Network.{IsTwin, IsGiven, IsUnderway, IsRestingCopy, CountsDue};
+    ghost use Rattle.ca_sim.specs.Network.{IsPut, IsWrittenOut, IsFedAt, IsTurned, IsReady, IsSettled};
+    ghost use Rattle.ca_sim.specs.Network.{IsTwin, IsTwinAt, IsGiven, IsUnderway, IsRestingCopy};
+    ghost use Rattle.ca_sim.specs.Network.{CountsDue};
     ghost use Rattle.std.specs.Prelude.{IsTrue};
-    ghost use Rattle.ca_sim.specs.code.Current.{input_waves, output_waves, IsCurrent};
+    ghost use Rattle.ca_sim.specs.Current.{input_waves, output_waves, IsCurrent};
     ghost use Rattle.ca_sim.specs.code.Cells.{AreCells};
 
     /// Takes the room for the waves of a chip's nets. No bit is set, and each instance with a place is due.
@@ -76,7 +77,7 @@ impl Network {
     }
 
     /// Gives the net of a chip input the wave of its two bits.
-    pub(crate) fn feed(&mut self, chip: &View, input: usize, bits: &State)
+    pub fn feed(&mut self, chip: &View, input: usize, bits: &State)
         requires known { input < length chip.now.core.inputs }
         requires bits { length bits.now ≡ bit_count chip.now.core }
         requires ready { IsReady chip.now.core (place_in chip.now.ranks) self.old }
@@ -95,7 +96,7 @@ impl Network {
     }
 
     /// The instance of a defect becomes due.
-    pub(crate) fn turn(&mut self, chip: &View, aim: Option<ChipDefect>)
+    pub fn turn(&mut self, chip: &View, aim: Option<ChipDefect>)
         requires aim { IsAim chip.now.core (place_in chip.now.ranks) aim }
         requires ready { IsReady chip.now.core (place_in chip.now.ranks) self.old }
 
@@ -107,8 +108,8 @@ impl Network {
         }
     }
 
-    /// Gives the output nets of an instance their waves.
-    fn write(&mut self, chip: &View, u: usize, outputs: &[Wave])
+    /// Gives the output nets of an instance their waves; the readers of those that change are due.
+    pub fn write(&mut self, chip: &View, u: usize, outputs: &[Wave])
         requires placed { IsPlaced chip.now.core (place_in chip.now.ranks) u }
         requires outputs { length outputs.now ≡ outputs_at chip.now.core u }
         requires count { length self.old.waves ≡ length chip.now.core.nets }
@@ -125,7 +126,7 @@ impl Network {
     }
 
     /// The waves of an instance's input pins.
-    fn input_waves(&self, chip: &View, u: usize) -> PinWaves
+    pub fn input_waves(&self, chip: &View, u: usize) -> PinWaves
         requires placed { IsPlaced chip.now.core (place_in chip.now.ranks) u }
         requires count { length self.now.waves ≡ length chip.now.core.nets }
         ensures { result.items ≡ input_waves chip.now.core self.now.waves u }
@@ -139,7 +140,7 @@ impl Network {
     }
 
     /// The waves of an instance's output pins.
-    fn output_waves(&self, chip: &View, u: usize) -> OutWaves
+    pub fn output_waves(&self, chip: &View, u: usize) -> OutWaves
         requires placed { IsPlaced chip.now.core (place_in chip.now.ranks) u }
         requires count { length self.now.waves ≡ length chip.now.core.nets }
         ensures { result.items ≡ output_waves chip.now.core self.now.waves u }
@@ -147,7 +148,7 @@ impl Network {
         chip.linked();
         let first = chip.inputs_at(u);
         let mut outputs = OutWaves::new();
-        for output in 0..chip.cell(u).outputs() {
+        for output in 0..chip.outputs_at(u) {
             outputs.push(self.waves.get(chip.pin_net(u, first + output)));
         }
         outputs
@@ -177,8 +178,8 @@ impl Network {
     }
 
     /// What an instance gives for these waves, if it has no defect and has them in this network too, which is
-    /// good and at rest.
-    fn twin_outputs(
+    /// good, and in which it is current.
+    pub fn twin_outputs(
         &self,
         chip: &View,
         u: usize,
@@ -186,7 +187,7 @@ impl Network {
         pins: &[Wave],
     ) -> Option<OutWaves>
         requires placed { IsPlaced chip.now.core (place_in chip.now.ranks) u }
-        requires twin { IsTwin chip.now.core self.now }
+        requires twin { IsTwinAt chip.now.core u self.now }
         ensures { IfSome result (λ outputs. IsGiven chip.now.core aim u pins.now outputs.items) }
     {
         if defect_here(aim, u).is_some() {
@@ -235,8 +236,8 @@ impl Network {
 }
 
 ghost use Rattle.ca_places.specs.PlaceSet.{Has, HoldsUpTo};
-ghost use Rattle.ca_sim.specs.code.Marking.{IsMarked, HasAllPlaces};
-ghost use Rattle.ca_sim.specs.code.Network.{HasConstants};
+ghost use Rattle.ca_sim.specs.Marking.{IsMarked, HasAllPlaces};
+ghost use Rattle.ca_sim.specs.Network.{HasConstants};
 
 // The waves of the nets while no bit is set and no instance has been evaluated: those of constants are known.
 fn constant_waves(alloc: Global, chip: &View) -> Result<Waves, NoMemory>
@@ -269,7 +270,7 @@ fn all_places(alloc: Global, chip: &View) -> Result<PlaceSet, NoMemory>
 }
 
 /// The instances that read a net become due.
-fn mark_readers(chip: &View, net: usize, due: &mut PlaceSet)
+pub fn mark_readers(chip: &View, net: usize, due: &mut PlaceSet)
     requires known { net < length chip.now.core.nets }
     requires room { HoldsUpTo due.old (count_of chip.now.core + 1) }
     ensures { IsMarked chip.now.core (place_in chip.now.ranks) net due.old due.new }
@@ -285,7 +286,7 @@ ghost use Rattle.ca_net.specs.Wave.{IsWave};
 ghost use Rattle.ca_table.specs.Gives.{Gives};
 ghost use Rattle.ca_flat.specs.Chip.{cell_at, inputs_at};
 ghost use Rattle.ca_flat.specs.Flat.{circuit_in};
-ghost use Rattle.ca_sim.specs.code.Network.{IsTwin};
+ghost use Rattle.ca_sim.specs.Network.{IsTwinAt};
 ghost use Rattle.ca_sim.specs.code.Cells.{AreCells};
 ghost use Rattle.ca_sim.specs.code.Simulator.{CountsOne};
 
@@ -302,7 +303,7 @@ fn respond_beside(
     requires listed { IsChipDefect chip.now.core aim }
     requires pins { length pins.items ≡ inputs_at chip.now.core u }
     requires waves { All IsWave pins.items }
-    requires twin { ForSome twin (λ good. IsTwin chip.now.core good.now) }
+    requires twin { ForSome twin (λ good. IsTwinAt chip.now.core u good.now) }
     requires cells { AreCells chip.now.core (place_in chip.now.ranks)
         (cell_number chip.now.chip) cells.old }
 

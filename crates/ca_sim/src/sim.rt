@@ -1,6 +1,6 @@
 //! The simulator of a chip.
 
-ghost use Rattle.std.specs.Prelude.{◌+◌, ◌*◌, ◌^◌, ◌≡◌, ◌≢◌, ◌<◌, ◌⊎◌, length, slice_set, IfOk};
+ghost use Rattle.std.specs.Prelude.{◌+◌, ◌*◌, ◌^◌, ◌≡◌, ◌≢◌, ◌<◌, ◌⊎◌, length, slice_set, IfOk, None};
 ghost use Rattle.ca_net.specs.State.{value_at};
 ghost use Rattle.ca_sim.specs.Seen.{value_of};
 
@@ -14,6 +14,8 @@ use crate::waves::Waves;
 use ca_base::NoMemory;
 use ca_flat::ChipDefect;
 use ca_net::{State, Trit, Wave};
+use ca_places::PlaceSet;
+use ca_response::{OutWaves, PinWaves};
 use ca_view::View;
 use std::alloc::Global;
 use std::marker::Model;
@@ -65,6 +67,13 @@ impl<'a> Sim<'a> {
     ghost use Rattle.ca_sim.specs.Seen.{IsExact, aimed_anew};
     ghost use Rattle.ca_sim.specs.Simulator.{IsFresh, KeepsAim, KeepsPair, KeepsSeen, CountsReaders};
     ghost use Rattle.ca_sim.specs.Simulator.{counted_up};
+    ghost use Rattle.std.specs.List.{All};
+    ghost use Rattle.ca_net.specs.Wave.{IsWave};
+    ghost use Rattle.ca_flat.specs.Chip.{cell_at, inputs_at, IsChipDefect};
+    ghost use Rattle.ca_flat.specs.Flat.{circuit_in};
+    ghost use Rattle.ca_table.specs.Gives.{Gives};
+    ghost use Rattle.ca_view.specs.Linked.{IsPlaced};
+    ghost use Rattle.ca_sim.specs.Network.{IsAtRest};
 
     /// Takes all memory. No bit is set, and no defect is aimed at.
     pub fn reserve(alloc: Global, chip: &'a View<'a>) -> Result<Self, NoMemory>
@@ -171,6 +180,35 @@ impl<'a> Sim<'a> {
             Some(aim) => self.networks.is_alike(chip, aim, defect, &mut self.cells),
             None => false,
         }
+    }
+
+    /// What an instance gives for waves at its input pins, with the defect or without. It is one evaluation.
+    pub fn respond(&mut self, u: usize, defect: Option<ChipDefect>, pins: PinWaves) -> OutWaves
+        requires placed { IsPlaced self.old.seen.chip (place_in self.old.seen.places) u }
+        requires listed { IsChipDefect self.old.seen.chip defect }
+        requires pins { length pins.items ≡ inputs_at self.old.seen.chip u }
+        requires waves { All IsWave pins.items }
+
+        ensures gives { Gives (cell_at self.old.seen.chip u) (circuit_in self.old.seen.chip defect u)
+            pins.items result.items }
+        ensures waves { All IsWave result.items }
+        ensures kept { KeepsSeen self.old self.new }
+    {
+        let chip = self.chip;
+        self.cells.respond(chip, u, defect, pins)
+    }
+
+    /// The network without a defect while no bit is set.
+    pub fn unset(&self, alloc: Global) -> Result<Network, NoMemory>
+        ensures { IfOk result (IsAtRest self.now.seen.chip (place_in self.now.seen.places) None
+            (unset_pair self.now.seen.chip)) }
+    {
+        let chip = self.chip;
+        chip.linked();
+        Ok(Network {
+            waves: self.unset.copy(alloc)?,
+            due: PlaceSet::reserve(alloc, chip.instances() + 1)?,
+        })
     }
 
     /// How often an instance was evaluated since `reserve`, up to the type's greatest value.

@@ -43,7 +43,7 @@ impl Waves {
     }
 
     /// Takes over the waves of a list that is as long.
-    pub(crate) fn take_over(&mut self, other: &Waves)
+    pub fn take_over(&mut self, other: &Waves)
         requires { length self.old ≡ length other.now }
         ensures { self.new ≡ other.now }
     {

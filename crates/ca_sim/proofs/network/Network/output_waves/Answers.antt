@@ -2,8 +2,10 @@ use Rattle.std.proofs.Common.{◌≡◌, ◌+◌, length, ◌∙◌, ap, sym, ar
 use Rattle.ca_net.specs.declared.wave.Wave.{Wave}
 use Rattle.ca_flat.specs.Chip.{net_of, output_net, inputs_at}
 use Rattle.ca_table.specs.Gives.{wave_at}
-use Rattle.ca_sim.specs.code.Current.{waves_from}
+use Rattle.ca_sim.specs.Current.{waves_from}
 use Rattle.ca_sim.proofs.WaveLemmas.{waves_from-none, waves_from-more, length-waves_from}
+use Rattle.ca_sim.proofs.OutputLemmas.{few_outputs_at}
+use Rattle.ca_view.specs.Linked.{place_in}
 use Rattle.ca_sim.proofs.network.Network.output_waves.Goals as goal
 
 pub loop-output-init : goal.loop-output-init
@@ -14,6 +16,7 @@ push-requires c =
     let core = c.args.chip.now.core in
     let count : length c.loop-output.outputs.items ≡ c.loop-output.output =
     ap length c.loop-output.invariant ∙ length-waves_from (output_net core c.args.u) c.args.self.now.waves 0 c.loop-output.output in
+    let few = few_outputs_at core (place_in c.args.chip.now.ranks) c.linked.ensures.linked.is_chip c.args.u c.requires.placed.known in
     omega arith
 
 pub loop-output-preserved : goal.loop-output-preserved

@@ -4,8 +4,8 @@ use Rattle.ca_net.specs.Wave.{IsWave}
 use Rattle.ca_flat.specs.Chip.{cell_at, net_of, inputs_at}
 use Rattle.ca_flat.specs.Flat.{circuit_in}
 use Rattle.ca_table.specs.Gives.{Gives}
-use Rattle.ca_sim.specs.code.Current.{input_waves}
-use Rattle.ca_sim.specs.code.Network.{IsWrittenOut}
+use Rattle.ca_sim.specs.Current.{input_waves}
+use Rattle.ca_sim.specs.Network.{IsWrittenOut}
 use Rattle.ca_places.proofs.PlaceLemmas.{holds_as}
 use Rattle.ca_view.specs.Places.{cell_number}
 use Rattle.ca_sim.proofs.WaveLemmas.{length-waves_from, all_waves_from}
@@ -24,6 +24,11 @@ respond_beside-outputs-requires-clause-waves c =
     let core = c.args.chip.now.core in
     subst (All IsWave) (sym (c.input_waves-pins.ensures))
     (all_waves_from (net_of core c.order-u.result) c.loop-place.self.waves c.loop-place.invariant.settled.ready.are_waves (inputs_at core c.order-u.result))
+
+pub respond_beside-outputs-requires-clause-twin : goal.respond_beside-outputs-requires-clause-twin
+respond_beside-outputs-requires-clause-twin c = λ good is.
+    let twin = c.requires.twin good is in
+    record { count = twin.count; are_waves = twin.are_waves; current = twin.current c.order-u.result c.order-u.ensures.placed.known }
 
 pub write-requires-clause-room : goal.write-requires-clause-room
 write-requires-clause-room c = holds_as c.loop-place.self.due c.remove.new.self c.remove.ensures.room _

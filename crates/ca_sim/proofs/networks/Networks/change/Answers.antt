@@ -3,7 +3,7 @@ use Rattle.ca_flat.specs.Chip.{Chip}
 use Rattle.ca_view.specs.Linked.{place_in}
 use Rattle.ca_view.specs.Places.{cell_number}
 use Rattle.ca_sim.specs.declared.network.Network.{Network}
-use Rattle.ca_sim.specs.code.Network.{IsFedAt}
+use Rattle.ca_sim.specs.Network.{IsFedAt}
 use Rattle.ca_sim.proofs.Loading.{changed_same}
 use Rattle.ca_sim.proofs.SimLemmas.{underway_fed}
 use Rattle.ca_sim.proofs.networks.Networks.change.Goals as goal

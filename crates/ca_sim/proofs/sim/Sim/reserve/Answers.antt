@@ -5,8 +5,8 @@ use Rattle.ca_net.specs.declared.trit.Trit.TheVariants.{X}
 use Rattle.ca_flat.specs.Pair.{bit_count}
 use Rattle.ca_flat.specs.Codes.{unset_pair}
 use Rattle.ca_view.specs.Linked.{place_in}
-use Rattle.ca_sim.specs.code.Network.{IsAtRest}
-use Rattle.ca_sim.specs.code.Current.{IsSimulated, none_due}
+use Rattle.ca_sim.specs.Network.{IsAtRest}
+use Rattle.ca_sim.specs.Current.{IsSimulated, none_due}
 use Rattle.ca_sim.specs.code.Cells.{AreCellRooms}
 use Rattle.ca_sim.specs.code.Cache.{HoldTrue}
 use Rattle.ca_sim.specs.declared.cache.Cache.{Cache}

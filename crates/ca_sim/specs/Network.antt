@@ -1,4 +1,4 @@
--- What only proofs of code cite: the waves of one network, and the places whose instances are due.
+-- The waves of one network, and the places whose instances are due.
 use Rattle.std.specs.Prelude.{ℕ, ◌+◌, ◌≡◌, ◌≢◌, ◌<◌, ◌≤◌, ◌⊎◌, List, length, slice_index, Option, None, Some}
 use Rattle.std.specs.List.{All}
 use Rattle.ca_net.specs.declared.trit.Trit.{Trit}
@@ -12,8 +12,8 @@ use Rattle.ca_flat.specs.Chip.{Chip, Constant, cell_at, count_of}
 use Rattle.ca_flat.specs.Flat.{circuit_in}
 use Rattle.ca_flat.specs.Pair.{constant_value}
 use Rattle.ca_view.specs.Linked.{Reads, IsPlace}
-use Rattle.ca_sim.specs.code.Current.{IsCurrent, IsSimulated, none_due}
-use Rattle.ca_sim.specs.code.Changes.{IsWritten, HasReadersDue}
+use Rattle.ca_sim.specs.Current.{IsCurrent, IsSimulated, none_due}
+use Rattle.ca_sim.specs.Changes.{IsWritten, HasReadersDue}
 use Rattle.ca_places.specs.declared.place_set.PlaceSet.{PlaceSet}
 use Rattle.ca_places.specs.PlaceSet.{Has, HoldsUpTo}
 use Rattle.ca_sim.specs.Simulator.{counted_up}
@@ -96,6 +96,12 @@ pub record IsTwin (chip : Chip) (net : Network) : Type 0 where
   pub count : length net.waves ≡ length chip.nets
   pub are_waves : (n : ℕ) → IsWave (wave_at net.waves n)
   pub current : (u : ℕ) → u < count_of chip → IsCurrent chip None net.waves u
+
+-- the same of this instance alone
+pub record IsTwinAt (chip : Chip) (u : ℕ) (net : Network) : Type 0 where
+  pub count : length net.waves ≡ length chip.nets
+  pub are_waves : (n : ℕ) → IsWave (wave_at net.waves n)
+  pub current : IsCurrent chip None net.waves u
 
 -- the instance gives these waves, which are waves
 pub record IsGiven (chip : Chip) (given : Option ChipDefect) (u : ℕ) (pins outputs : List Wave) : Type 0 where

@@ -1,4 +1,4 @@
--- What only proofs of code cite: instances that are current, and those that are due.
+-- Instances that are current, and those that are due.
 use Rattle.std.specs.Prelude.{ℕ, zero, suc, ◌+◌, ◌≡◌, ◌<◌, List, [], ◌∷◌, length, Option, None}
 use Rattle.ca_net.specs.declared.trit.Trit.{Trit}
 use Rattle.ca_net.specs.declared.wave.Wave.{Wave}
@@ -7,6 +7,7 @@ use Rattle.ca_net.specs.Wave.{IsWave, pair_of}
 use Rattle.ca_table.specs.Gives.{wave_at, Gives}
 use Rattle.ca_flat.specs.declared.chip_defect.ChipDefect.{ChipDefect}
 use Rattle.ca_flat.specs.Chip.{Chip, cell_at, inputs_at, outputs_at, net_of, output_net, count_of, net_kind}
+use Rattle.ca_flat.specs.Chip.{Drives}
 use Rattle.ca_flat.specs.Flat.{circuit_in}
 use Rattle.ca_flat.specs.Pair.{net_value}
 use Rattle.ca_flat.specs.Codes.{unset_pair}
@@ -41,6 +42,10 @@ pub record IsSimulated (chip : Chip) (given : Option ChipDefect) (pair : List Tr
   pub inputs : (net : ℕ) → net < length chip.nets → net_kind chip net ≡ Input
       → wave_at waves net ≡ pair_wave chip pair net
   pub current : (u : ℕ) → u < count_of chip → (due u → ⊥) → IsCurrent chip given waves u
+
+-- each instance that drives the net is one of these
+abbrev pub IsDrivenIn : Chip → (ℕ → Type 0) → ℕ → Type 0
+IsDrivenIn chip in_set net = (drives : Drives chip net) → in_set drives.instance
 
 -- nothing is due
 abbrev pub none_due : ℕ → Type 0

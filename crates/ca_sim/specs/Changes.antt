@@ -1,4 +1,4 @@
--- What only proofs of code cite: changes of the waves of nets, and what they make due.
+-- Changes of the waves of nets, and what they make due.
 use Rattle.std.specs.Prelude.{ℕ, ◌≡◌, ◌<◌, List, length}
 use Rattle.ca_net.specs.declared.trit.Trit.{Trit}
 use Rattle.ca_net.specs.declared.wave.Wave.{Wave}
@@ -6,7 +6,7 @@ use Rattle.ca_net.specs.declared.node.NodeKind.TheVariants.{Input}
 use Rattle.ca_table.specs.Gives.{wave_at}
 use Rattle.ca_flat.specs.Chip.{Chip, inputs_at, outputs_at, net_of, output_net, count_of, net_kind}
 use Rattle.ca_flat.specs.Chain.{IsOutputOf}
-use Rattle.ca_sim.specs.code.Current.{pair_wave}
+use Rattle.ca_sim.specs.Current.{pair_wave}
 
 -- the instance's output nets have these waves, and each other net has the wave that it had
 pub record IsWritten (chip : Chip) (u : ℕ) (outputs old new : List Wave) : Type 0 where
