@@ -1,5 +1,5 @@
 -- Where no instance is due, the waves are those of the flat network.
-use Rattle.std.proofs.Common.{◌≡◌, ℕ, zero, suc, ◌+◌, ◌<◌, List, ◌∷◌, length, Option, refl, sym, ◌∙◌, ap, arith}
+use Rattle.std.proofs.Common.{◌≡◌, ◌↔◌, ℕ, zero, suc, ◌+◌, ◌<◌, List, ◌∷◌, length, Option, refl, sym, ◌∙◌, ap, arith}
 use Rattle.ca_net.specs.declared.trit.Trit.{Trit}
 use Rattle.ca_net.specs.declared.trit.Trit.TheVariants.{Zero, One, X}
 use Rattle.ca_net.specs.declared.wave.Wave.{Wave}
@@ -12,7 +12,7 @@ use Rattle.ca_parts.proofs.RisingLimits.{limits_exist_lem}
 use Rattle.ca_defect.specs.Exposes.{pin_vector}
 use Rattle.ca_response.specs.Outputs.{wave_in, output_node}
 use Rattle.ca_flat.specs.declared.chip_defect.ChipDefect.{ChipDefect}
-use Rattle.ca_flat.specs.Chip.{Chip, cell_at, inputs_at, outputs_at, net_of, output_net, count_of, Drives}
+use Rattle.ca_flat.specs.Chip.{Chip, cell_at, inputs_at, outputs_at, net_of, output_net, count_of}
 use Rattle.ca_flat.specs.Flat.{circuit_in, place, flat}
 use Rattle.ca_flat.specs.Pair.{flat_vector}
 use Rattle.ca_flat.specs.Pair.{first_vector, middle_vector, last_vector, NetEndsAt}
@@ -115,11 +115,14 @@ waves_are_there_lem chip rank o pair is none =
     (λ n i. middle_under_first chip pair n) (λ n i. middle_under_last chip pair n)
     (λ first middle last limits. none (record { first = first; middle = middle; last = last; limits = limits }))
 
-pub definite_last_is_end_lem : DefiniteLastIsEnd
-definite_last_is_end_lem chip rank o pair waves net v is are within = (ends, shows)
+-- a wave that is that of the flat network ends with a value exactly where every run does
+pub last_is_end_where : (chip : Chip) (rank : ℕ → ℕ) (o : Option ChipDefect) (pair : List Trit) (waves : List Wave) (net : ℕ) (v : Trit) → IsFlattened chip rank o
+    → ((flat_waves : FlatWaves chip o pair) → wave_at waves net ≡ wave_of flat_waves net) → net < length chip.nets
+    → ((v ≡ X → ⊥) × ((wave_at waves net).last ≡ v)) ↔ NetEndsAt chip o pair net v
+last_is_end_where chip rank o pair waves net v is are within = (ends, shows)
   where
     last_is : (flat_waves : FlatWaves chip o pair) → (wave_at waves net).last ≡ (wave_of flat_waves net).last
-    last_is flat_waves = ap (λ (w : Wave). w.last) (are.exact flat_waves net within)
+    last_is flat_waves = ap (λ (w : Wave). w.last) (are flat_waves)
 
     ends : (v ≡ X → ⊥) × ((wave_at waves net).last ≡ v) → NetEndsAt chip o pair net v
     ends h = record {
@@ -134,3 +137,7 @@ definite_last_is_end_lem chip rank o pair waves net v is are within = (ends, sho
       same_stable (wave_at waves net).last v (λ out. waves_are_there_lem chip rank o pair is (λ flat_waves.
           out (last_is flat_waves ∙ ends_last chip rank o is pair flat_waves net v within end))),
     )
+
+pub definite_last_is_end_lem : DefiniteLastIsEnd
+definite_last_is_end_lem chip rank o pair waves net v is are within =
+    last_is_end_where chip rank o pair waves net v is (λ flat_waves. are.exact flat_waves net within) within
