@@ -17,5 +17,6 @@ pub use bits::Bits;
 pub use laws::{definite_last_is_end, waves_are_there};
 pub use net_waves::NetWaves;
 pub use network::{Network, mark_readers};
-pub use sim::Sim;
+pub use networks::forget;
+pub use sim::{Sim, input_of, trit_of};
 pub use waves::Waves;

@@ -215,8 +215,8 @@ impl Networks {
 
 ghost use Rattle.std.specs.Prelude.{replicate};
 
-// Makes all values unknown.
-fn forget(bits: &mut State)
+/// Makes all values unknown.
+pub fn forget(bits: &mut State)
     ensures { bits.new ≡ replicate (length bits.old) Trit.X }
 {
     for bit in 0..bits.len() {

@@ -250,8 +250,8 @@ impl NetWaves for Sim<'_> {
     }
 }
 
-// The chip input of a bit.
-fn input_of(bit: usize, inputs: usize) -> usize
+/// The chip input of a bit.
+pub fn input_of(bit: usize, inputs: usize) -> usize
     requires { bit < 2 * inputs }
     ensures within { result < inputs }
     ensures of { (bit ≡ result) ⊎ (bit ≡ inputs + result) }
@@ -267,8 +267,8 @@ fn chosen(place: usize, bit: usize, value: Trit, old: Trit) -> Trit
     if place == bit { value } else { old }
 }
 
-// The value of a bit.
-fn trit_of(value: Option<bool>) -> Trit
+/// The value of a bit, X for one that is unset.
+pub fn trit_of(value: Option<bool>) -> Trit
     ensures { result ≡ value_of value }
 {
     match value {
