@@ -1,0 +1,35 @@
+-- Opposite last values.
+use Rattle.std.proofs.Common.{◌≡◌, ◌≢◌, true, false, refl}
+use Rattle.ca_net.specs.declared.trit.Trit.{Trit}
+use Rattle.ca_net.specs.declared.trit.Trit.TheVariants.{Zero, One, X}
+use Rattle.ca_defect.specs.Exposes.{opposite_of}
+use Rattle.ca_confined.specs.code.Ends.{are_opposite}
+
+pub record IsOpposite (a b : Trit) : Type 0 where
+  pub definite : a ≢ X
+  pub opposite : b ≡ opposite_of a
+
+pub opposite_is : (a b : Trit) → are_opposite a b ≡ true → IsOpposite a b
+opposite_is Zero Zero e = absurd (let clash : false ≡ true = e in cc)
+opposite_is Zero One e = record { definite = λ clash. cc; opposite = refl }
+opposite_is Zero X e = absurd (let clash : false ≡ true = e in cc)
+opposite_is One Zero e = record { definite = λ clash. cc; opposite = refl }
+opposite_is One One e = absurd (let clash : false ≡ true = e in cc)
+opposite_is One X e = absurd (let clash : false ≡ true = e in cc)
+opposite_is X b e = absurd (let clash : false ≡ true = e in cc)
+
+pub is_opposite : (a : Trit) → a ≢ X → are_opposite a (opposite_of a) ≡ true
+is_opposite Zero definite = refl
+is_opposite One definite = refl
+is_opposite X definite = absurd (definite refl)
+
+pub opposite_definite : (a : Trit) → a ≢ X → opposite_of a ≢ X
+opposite_definite Zero definite e = let clash : One ≡ X = e in cc
+opposite_definite One definite e = let clash : Zero ≡ X = e in cc
+opposite_definite X definite e = definite refl
+
+-- no definite value is its opposite
+pub not_own_opposite : (a : Trit) → a ≢ X → a ≡ opposite_of a → ⊥
+not_own_opposite Zero definite e = let clash : Zero ≡ One = e in cc
+not_own_opposite One definite e = let clash : One ≡ Zero = e in cc
+not_own_opposite X definite e = definite refl
