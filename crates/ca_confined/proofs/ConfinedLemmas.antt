@@ -23,8 +23,9 @@ use Rattle.std.proofs.Common.{Bor}
 use Rattle.ca_places.specs.declared.place_set.PlaceSet.{PlaceSet}
 use Rattle.ca_places.specs.PlaceSet.{Has}
 use Rattle.ca_sim.specs.declared.network.Network.{Network}
-use Rattle.ca_sim.specs.Current.{IsDrivenIn}
-use Rattle.ca_sim.specs.Network.{IsDue, IsReady, IsAtRest, IsUnderway, IsFedAt}
+use Rattle.ca_sim.specs.code.Current.{IsDrivenIn}
+use Rattle.ca_sim.specs.Network.{IsDue, IsReady, IsAtRest, IsFedAt}
+use Rattle.ca_sim.specs.code.Network.{IsUnderway}
 use Rattle.ca_sim.specs.Simulator.{Simulator}
 use Rattle.ca_sim.proofs.SimLemmas.{underway, underway_fed}
 use Rattle.ca_sim.proofs.Feeding.{SameElsewhere}

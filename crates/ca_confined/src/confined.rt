@@ -201,7 +201,7 @@ impl<'a> Confined<'a> {
 }
 
 ghost use Rattle.ca_view.specs.Linked.{IsAim, place_in};
-ghost use Rattle.ca_sim.specs.Current.{AreUnset};
+ghost use Rattle.ca_sim.specs.code.Current.{AreUnset};
 ghost use Rattle.ca_sim.specs.Network.{IsReady, IsAtRest};
 ghost use Rattle.ca_flat.specs.Codes.{unset_pair};
 ghost use Rattle.ca_confined.specs.code.Scope.{IsScopeRoom};

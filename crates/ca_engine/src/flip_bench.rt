@@ -4,7 +4,7 @@ ghost use Rattle.std.specs.Prelude.{◌≡◌, ◌<◌, ◌^◌, length, IfOk};
 
 use ca_base::NoMemory;
 use ca_flat::ChipDefect;
-use ca_guide::{Attempt, Choice, Step};
+use ca_guide::{Choice, Step};
 use ca_judge::ExposingRows;
 use ca_net::Wave;
 use ca_places::PlaceSet;
@@ -229,10 +229,6 @@ impl<R: ExposingRows, P: Choice + Drop, F: FlipFinder + Drop> Judge for FlipBenc
         self.judge.set(bit, value);
     }
 
-    fn is_shown(&self) -> bool {
-        self.judge.is_shown()
-    }
-
     fn standing(&self) -> Standing {
         self.judge.standing()
     }
@@ -242,9 +238,9 @@ impl<R: ExposingRows, P: Choice + Drop, F: FlipFinder + Drop> Judge for FlipBenc
         self.judge.next()
     }
 
-    fn attempt(&mut self) -> Attempt {
+    fn attempt(&mut self, numbers: &mut Vec<u16>, budget: u32) -> bool {
         self.is_loaded = false;
-        self.judge.attempt()
+        self.judge.attempt(numbers, budget)
     }
 }
 

@@ -26,12 +26,13 @@ use Rattle.ca_guide.specs.declared.guide.Attempt.TheVariants.{Set, TakeBack, Giv
 use Rattle.ca_net.specs.State.{value_at}
 use Rattle.ca_search.specs.declared.judge.Standing.{Standing}
 use Rattle.ca_search.specs.declared.judge.Standing.TheVariants.{Shown, Settled, Open}
-use Rattle.ca_search.specs.Judged.{with_pair, IsStanding, IsStep, IsOpenFor, IsShownFor, IsFlatFor, IsAttempted}
+use Rattle.ca_search.specs.Judged.{with_pair, IsStanding, IsStep, IsOpenFor, IsShownFor, IsFlatFor}
 use Rattle.ca_judge.specs.code.Ends.{LooksSo, is_opposite_at}
 use Rattle.ca_judge.specs.code.Outputs.{AreObservedBelow}
 use Rattle.ca_judge.specs.GuideSeen.{guide_seen}
 use Rattle.ca_judge.specs.ChipJudge.{CanBeJudged, judged_of}
 use Rattle.ca_judge.specs.code.ChipJudge.{IsChipJudge, IsGuidedTo}
+use Rattle.ca_judge.specs.code.Attempt.{IsAimed}
 use Rattle.ca_judge.proofs.StandingLemmas.{SeesBoth, StandsSo, stands_so, shown_so, so_shown}
 use Rattle.ca_judge.proofs.StepLemmas.{IsSearchStep, search_step}
 use Rattle.ca_judge.proofs.SeenLemmas.{pair_again, bits_count, shows_pair, unset_value}
@@ -65,11 +66,6 @@ pub record IsAsked (chip : Chip) (lists : NetLists) (guide_is : Guided) (d : Chi
   pub covers : guide.Covers lists (guide_seen seen)
   pub is_open : IsOpenPair chip d (guide.pair_of (guide_seen seen))
 
--- what it asks for a step of an attempt
-pub record IsAskedFor (chip : Chip) (lists : NetLists) (d : ChipDefect) (seen : Seen) : Type 0 where
-  pub instance : d.instance < count_of chip
-  pub covers : guide.Covers lists (guide_seen seen)
-
 module _ (seen : Seen) (chip : Chip) (lists : NetLists) (rows_chip : Chip) (guide_is : Guided) (outputs : List ℕ)
     (defect : Option ChipDefect) (is : IsChipJudge seen.chip seen.aim chip lists rows_chip guide_is outputs defect) where
   -- the outputs are those of the chip
@@ -85,6 +81,20 @@ module _ (seen : Seen) (chip : Chip) (lists : NetLists) (rows_chip : Chip) (guid
   pub outputs_within : All (λ net. net < length seen.chip.nets) outputs
   outputs_within k d lt = subst (λ n. slice_index_or outputs k d < n) is.nets.onward_count
       ((is.outputs_are.each (slice_index_or outputs k d)).0 (Contains-get_or outputs k d lt)).0
+
+  -- what an attempt begins with
+  pub aimed_for : (d : ChipDefect) → defect ≡ Some d → IsAimed chip lists guide_is d
+  aimed_for d e =
+      let to = subst (IsGuidedTo seen.chip guide_is) e is.guided_to in
+      subst (λ c. IsAimed c lists guide_is d) (sym is.same) (record {
+        nets = is.nets;
+        room = is.room;
+        support = to.1;
+        instance = to.0.known;
+        few = is.judged.few;
+        good_is = is.judged.good_is;
+        faulty_is = is.judged.faulty_are d to.0;
+      })
 
   module _ (exact : IsExact seen) where
     -- the flat networks for the defect, and their waves
@@ -150,37 +160,6 @@ module _ (seen : Seen) (chip : Chip) (lists : NetLists) (rows_chip : Chip) (guid
         let stands = shown_for seen.aim (sym is.aim_is) some in
         ((λ t. stands.0 (looks.0 t)), (λ shown. looks.1 (stands.1 shown)))
 
-    -- what an attempt asks of the guide
-    pub attempts : (d : ChipDefect) → defect ≡ Some d → IsAskedFor chip lists d seen
-    attempts d e = subst (λ c. IsAskedFor c lists d seen) (sym is.same) (record {
-      instance = (sees_both d e).faulty_flat.defect_is.known;
-      covers = record {
-        good = exact.whole.good ∙ sym is.nets.onward_count;
-        faulty = exact.whole.faulty ∙ sym is.nets.onward_count;
-        bits =
-            let bits = bits_count seen in let whole = exact.whole.bits in
-            let same = ap length is.nets.inputs in omega arith;
-      };
-    })
-
-    -- a bit that is set is an unset one of the support
-    so_attempt : (d : ChipDefect) → defect ≡ Some d → (attempt : Attempt)
-        → guided.IsAttempt guide_is.support (guide_seen seen).bits attempt
-        → IsAttempted (record { chip = seen.chip; places = seen.places; aim = Some d; pair = seen.pair }) attempt
-    so_attempt d e (Set bit value) is_set = record {
-      supports = ((subst (IsGuidedTo seen.chip guide_is) e is.guided_to).1 bit).0 is_set.listed;
-      unset = unset_value seen.pair bit is_set.unset;
-    }
-    so_attempt d e TakeBack is_set = tt
-    so_attempt d e GiveUp is_set = tt
-
-    pub judge_attempts : (d : ChipDefect) → defect ≡ Some d → (attempt : Attempt)
-        → guided.IsAttempt guide_is.support (guide_seen seen).bits attempt → IsAttempted (judged_of seen) attempt
-    judge_attempts d e attempt is_set =
-        subst (λ a. IsAttempted (record { chip = seen.chip; places = seen.places; aim = a; pair = seen.pair }) attempt)
-        (sym (is.aim_is ∙ e)) (so_attempt d e attempt is_set)
-
-    -- what the guide asks
     pub asks : (d : ChipDefect) → defect ≡ Some d → IsOpenFor seen.chip seen.aim seen.pair
         → IsAsked chip lists guide_is d seen
     asks d e is_open = subst (λ c. IsAsked c lists guide_is d seen) (sym is.same) (record {

@@ -5,3 +5,4 @@ pub mod StepLemmas
 pub mod OutputLemmas
 pub mod JudgeLemmas
 pub mod ScreenLemmas
+pub mod AttemptLemmas

@@ -5,12 +5,14 @@ ghost use Rattle.ca_flat.specs.Chip.{IsChipDefect};
 ghost use Rattle.ca_guide.specs.Guide.{HasRoomFor};
 ghost use Rattle.ca_judge.specs.code.ChipJudge.{IsGuidedTo};
 
+use crate::attempt::{Aimed, attempt};
 use crate::guide_waves::GuideWaves;
 use crate::outputs::observed_nets;
-use crate::standing::{is_shown, standing};
+use crate::standing::standing;
 use ca_base::NoMemory;
 use ca_flat::{ChipDefect, ExposingRows};
-use ca_guide::{Attempt, Choice, Guide, Step, is_some_row_allowed};
+use ca_confined::Confined;
+use ca_guide::{Choice, Guide, Step, is_some_row_allowed};
 use ca_net::Wave;
 use ca_search::{Judge, Standing};
 use ca_sim::{Bits, NetWaves, Sim};
@@ -34,6 +36,8 @@ fn guide_to(guide: &mut Guide, view: &View<'_>, defect: Option<ChipDefect>)
 #[derive(Drop)]
 pub struct ChipJudge<'a, R: ExposingRows, P: Choice + Drop> {
     sim: Sim<'a>,
+    // the waves of an attempt
+    confined: Confined<'a>,
     view: &'a View<'a>,
     rows: &'a R,
     guide: Guide,
@@ -46,13 +50,15 @@ pub struct ChipJudge<'a, R: ExposingRows, P: Choice + Drop> {
 impl<'a, R: ExposingRows, P: Choice + Drop> Model for ChipJudge<'a, R, P> {
     ghost use Rattle.ca_sim.specs.Simulator.{Simulator};
     ghost use Rattle.ca_judge.specs.code.ChipJudge.{IsChipJudge};
+    ghost use Rattle.ca_judge.specs.code.Attempt.{IsTried};
 
     ghost Value = { Simulator };
 
     ghost view = { λ judge. judge.sim };
 
     ghost invariant = { λ judge. IsChipJudge judge.sim.seen.chip judge.sim.seen.aim judge.view.now.core
-        judge.view.now.lists (R.chip judge.rows.now) judge.guide judge.outputs.items judge.defect };
+        judge.view.now.lists (R.chip judge.rows.now) judge.guide judge.outputs.items judge.defect
+        × IsTried judge.sim.seen judge.confined };
 }
 
 impl<'a, R: ExposingRows, P: Choice + Drop> ChipJudge<'a, R, P> {
@@ -84,8 +90,10 @@ impl<'a, R: ExposingRows, P: Choice + Drop> ChipJudge<'a, R, P> {
         let outputs = observed_nets(alloc, view)?;
         let guide = Guide::reserve(alloc, view)?;
         let sim = Sim::reserve(alloc, view)?;
+        let confined = Confined::reserve(alloc, view, &sim)?;
         Ok(ChipJudge {
             sim,
+            confined,
             view,
             rows,
             guide,
@@ -199,11 +207,6 @@ impl<R: ExposingRows, P: Choice + Drop> Judge for ChipJudge<'_, R, P> {
         self.sim.set(bit, value);
     }
 
-    fn is_shown(&self) -> bool {
-        self.sim.exact();
-        is_shown(&self.sim, &self.outputs)
-    }
-
     fn standing(&self) -> Standing {
         self.sim.exact();
         standing(&self.sim, &self.outputs)
@@ -224,18 +227,34 @@ impl<R: ExposingRows, P: Choice + Drop> Judge for ChipJudge<'_, R, P> {
         }
     }
 
-    fn attempt(&mut self) -> Attempt {
-        self.sim.exact();
-        let waves = GuideWaves { waves: &self.sim };
+    fn attempt(&mut self, numbers: &mut Vec<u16>, budget: u32) -> bool {
+        self.view.linked();
         match self.defect {
-            Some(defect) => self.guide.attempt(
-                self.view,
-                &waves,
-                self.rows.rows(defect),
-                defect,
-                &mut self.choice,
-            ),
-            None => Attempt::GiveUp,
+            Some(defect) => {
+                self.choice.begin();
+                self.confined.begin(Some(defect), &mut self.sim);
+                let aimed = Aimed {
+                    view: self.view,
+                    guide: &self.guide,
+                    rows: self.rows.rows(defect),
+                    defect,
+                    budget,
+                };
+                let found = attempt(
+                    &aimed,
+                    &mut self.confined,
+                    &mut self.sim,
+                    &mut self.choice,
+                    numbers,
+                );
+                if found {
+                    self.sim.exact();
+                    self.confined.whole();
+                    self.sim.load(self.confined.pair());
+                }
+                found
+            }
+            None => false,
         }
     }
 }

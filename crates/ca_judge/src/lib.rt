@@ -1,6 +1,8 @@
 //! The simulator and the guide as one: the judge that a search asks.
 #![tactic(auto)]
 
+mod attempt;
+mod attempt_waves;
 mod chip_judge;
 mod guide_waves;
 mod outputs;

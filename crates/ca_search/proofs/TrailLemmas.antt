@@ -13,7 +13,7 @@ use Rattle.ca_search.specs.code.Judged.{MayLeaveHere, MayDecideHere}
 use Rattle.ca_search.specs.Tokens.{token_of, tokens_of}
 use Rattle.ca_search.specs.declared.trail.Trail.{Trail}
 use Rattle.ca_search.specs.SearchRules.{rules_for}
-use Rattle.ca_search.specs.code.Steps.{AreFresh, Follows, still_later, Stands, TrailStands, HasBegun, TurnsTo}
+use Rattle.ca_search.specs.code.Steps.{AreFresh, Follows, still_later, Stands, TrailStands, IsEmptied, TurnsTo}
 use Rattle.ca_search.specs.code.Steps.{IsTurn}
 use Rattle.ca_search.specs.code.Steps.{IsLeft}
 use Rattle.ca_code.proofs.TokenLemmas.{tokens_push, tokens_counted}
@@ -136,9 +136,9 @@ spent_of judged trail bit stands may spent = record {
 }
 
 -- where a search has begun, its trail stands
-pub trail_begins : (old new : Judged) (trail : Trail) → HasBegun old new trail → TrailStands new trail
-trail_begins old new trail begun = record {
+pub trail_begins : (old new : Judged) (trail : Trail) → IsEmptied old trail → new ≡ with_pair old (unset_pair old.chip) → TrailStands new trail
+trail_begins old new trail begun unset = record {
   stands = subst (λ n. Stands new (tokens_of trail.numbers.items) trail.decisions.items n trail.budget) (sym begun.branches)
-      (begins_to old new _ _ _ begun.unset begun.numbers begun.decisions);
-  bits = bits_stay old new _ (aim_of old new _ begun.unset) begun.bits;
+      (begins_to old new _ _ _ unset begun.numbers begun.decisions);
+  bits = bits_stay old new _ (aim_of old new _ unset) begun.bits;
 }

@@ -20,10 +20,9 @@ use Rattle.ca_flat.proofs.Completions.{shown_is_kept_lem}
 use Rattle.ca_search.specs.SearchRules.{search_rules, rules_for, MayLeave}
 use Rattle.ca_search.specs.FreeWay.{MaySet, IsFreeWay, FreeWayIsFront}
 use Rattle.ca_search.specs.Filled.{filled, trits_of}
-use Rattle.ca_search.specs.Judged.{Judged, with_pair, IsShownFor, IsFlatFor, MaySetFor}
-use Rattle.ca_search.specs.code.Judged.{MaySetHere, IsUnshownHere, IsFreeWayFor, IsWayHere}
-use Rattle.ca_search.specs.code.Steps.{HasBegun, AttemptStands}
-use Rattle.ca_search.specs.declared.trail.Trail.{Trail}
+use Rattle.ca_search.specs.Judged.{Judged, with_pair, IsShownFor, IsFlatFor}
+use Rattle.ca_search.specs.code.Judged.{MaySetFor, MaySetHere, IsUnshownHere}
+use Rattle.ca_search.specs.Judged.{IsFreeWayFor, IsWayHere}
 use Rattle.ca_search.specs.Tokens.{token_of, tokens_of}
 use Rattle.ca_code.proofs.TokenLemmas.{tokens_push, tokens_counted}
 use Rattle.ca_search.proofs.FilledLemmas.{filled_above, filled_at}
@@ -186,15 +185,10 @@ begins_for chip None some = absurd (let clash : false ≡ true = some in cc)
 begins_for chip (Some defect) some = refl
 
 -- by what each call said of its result
-pub way_begins : (old new : Judged) (trail : Trail) → IsSome old.aim → HasBegun old new trail
-    → AttemptStands new trail
-way_begins old new trail some begun =
-    subst (λ j. AttemptStands j trail) (sym begun.unset) (record {
-      way = subst (λ (numbers : List ℕ). IsFreeWayFor old.chip old.aim (tokens_of numbers) (unset_pair old.chip))
-          (sym begun.numbers) (begins_for old.chip old.aim some);
-      within = let none = ap length begun.numbers in omega arith;
-      bits = begun.bits;
-    })
+pub way_begins : (old : Judged) (numbers : List ℕ) → IsSome old.aim → numbers ≡ [] → old.pair ≡ unset_pair old.chip → IsWayHere old (tokens_of numbers)
+way_begins old numbers some none unset =
+    subst (λ pair. IsFreeWayFor old.chip old.aim (tokens_of numbers) pair) (sym unset)
+    (subst (λ (list : List ℕ). IsFreeWayFor old.chip old.aim (tokens_of list) (unset_pair old.chip)) (sym none) (begins_for old.chip old.aim some))
 
 pub way_longer : (old new : Judged) (numbers longer : List ℕ) (bit number : ℕ) (first : Bool)
     → IsWayHere old (tokens_of numbers) → IsUnshownHere old → MaySetHere old bit

@@ -7,12 +7,12 @@ use Rattle.ca_flat.specs.Waves.{IsFlatChip}
 use Rattle.ca_flat.specs.Pair.{IsShown, IsSettledPair, IsOpenPair}
 use Rattle.ca_guide.specs.declared.guide.Step.{Step}
 use Rattle.ca_guide.specs.declared.guide.Step.TheVariants.{Branch, RuledOut}
-use Rattle.ca_guide.specs.declared.guide.Attempt.{Attempt}
-use Rattle.ca_guide.specs.declared.guide.Attempt.TheVariants.{Set, TakeBack, GiveUp}
 use Rattle.ca_search.specs.declared.judge.Standing.{Standing}
 use Rattle.ca_search.specs.declared.judge.Standing.TheVariants.{Shown, Settled, Open}
 use Rattle.ca_search.specs.SearchRules.{IsPlainPair, MayDecideFor}
-use Rattle.ca_search.specs.FreeWay.{MaySet}
+use Rattle.ca_search.specs.FreeWay.{IsFreeWay}
+use Rattle.ca_flat.specs.declared.token.Token.{Token}
+use Rattle.ca_flat.specs.Codes.{unset_pair}
 
 -- a chip, with the places of its instances in the order of evaluation; the defect of it that is aimed at, if
 -- one is; and a partial pair
@@ -66,13 +66,20 @@ abbrev pub IsFlatFor : Chip → Option ChipDefect → Type 0
 IsFlatFor chip None = Unit {0}
 IsFlatFor chip (Some defect) = (rank : ℕ → ℕ) × IsFlatChip chip rank defect
 
--- the bit is an unset one of the support of the defect that is aimed at
-abbrev pub MaySetFor : Chip → Option ChipDefect → List Trit → ℕ → Type 0
-MaySetFor chip None pair bit = ⊥
-MaySetFor chip (Some defect) pair bit = MaySet chip defect pair bit
+-- the pair in hand shows the defect that is aimed at
+abbrev pub IsShownHere : Judged → Type 0
+IsShownHere judged = IsShownFor judged.chip judged.aim judged.pair
 
--- a bit that is set in an attempt is an unset one of the support
-abbrev pub IsAttempted : Judged → Attempt → Type 0
-IsAttempted judged (Set bit value) = MaySetFor judged.chip judged.aim judged.pair bit
-IsAttempted judged TakeBack = Unit {0}
-IsAttempted judged GiveUp = Unit {0}
+-- the code is a way to the pair for the defect that is aimed at
+abbrev pub IsFreeWayFor : Chip → Option ChipDefect → List Token → List Trit → Type 0
+IsFreeWayFor chip None code pair = ⊥
+IsFreeWayFor chip (Some defect) code pair = IsFreeWay chip defect code (unset_pair chip) pair
+
+-- the code is a way to the pair in hand
+abbrev pub IsWayHere : Judged → List Token → Type 0
+IsWayHere judged code = IsFreeWayFor judged.chip judged.aim code judged.pair
+
+-- the way leads to the pair in hand, which shows the defect
+pub record IsFoundWay (judged : Judged) (code : List Token) : Type 0 where
+  pub way : IsWayHere judged code
+  pub shown : IsShownHere judged

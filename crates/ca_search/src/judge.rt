@@ -1,6 +1,6 @@
 //! What a search asks: how a partial pair stands, and which bit to decide next.
 
-use ca_guide::{Attempt, Step};
+use ca_guide::Step;
 
 /// How a partial pair stands.
 #[derive(Clone, Copy, Debug, PartialEq, Eq)]
@@ -12,13 +12,15 @@ pub enum Standing {
 
 /// The simulator of a chip and the guide of the defect that is aimed at, as one.
 pub trait Judge {
-    ghost use Rattle.std.specs.Prelude.{◌≡◌, ◌<◌, ◌≤◌, ◌↔◌, slice_set, IsSome, IsTrue};
+    ghost use Rattle.std.specs.Prelude.{◌≡◌, ◌<◌, ◌≤◌, ◌+◌, ◌*◌, slice_set, IsSome, IsTrue, [], length};
+    ghost use Rattle.std.specs.Prelude.{vec_capacity};
     ghost use Rattle.ca_flat.specs.Pair.{bit_count};
     ghost use Rattle.ca_flat.specs.Codes.{unset_pair};
     ghost use Rattle.ca_guide.specs.Seen.{set_trit};
     ghost use Rattle.ca_code.specs.declared.token.TheConstants.{MOST_PATTERN_BITS};
-    ghost use Rattle.ca_search.specs.Judged.{Judged, with_pair, IsShownFor, IsOpenFor, IsStanding, IsStep};
-    ghost use Rattle.ca_search.specs.Judged.{IsFlatFor, IsAttempted};
+    ghost use Rattle.ca_search.specs.Judged.{Judged, with_pair, IsOpenFor, IsStanding, IsStep, IsFlatFor};
+    ghost use Rattle.ca_search.specs.Judged.{IsSameAim, IsFoundWay};
+    ghost use Rattle.ca_search.specs.Tokens.{tokens_of};
 
     /// The chip, the defect that is aimed at, and the bits that are set.
     ghost judged: { Self → Judged };
@@ -32,7 +34,7 @@ pub trait Judge {
     fn flat(&self)
         ensures { IsFlatFor (judged self.now).chip (judged self.now).aim };
 
-    /// Unsets all bits. An attempt begins.
+    /// Unsets all bits.
     fn clear(&mut self)
         ensures { judged self.new ≡ with_pair (judged self.old) (unset_pair (judged self.old).chip) };
 
@@ -41,12 +43,6 @@ pub trait Judge {
         requires { bit < bit_count (judged self.old).chip }
         ensures { judged self.new
             ≡ with_pair (judged self.old) (slice_set (judged self.old).pair bit (set_trit value)) };
-
-    /// Whether the partial pair shows the defect.
-    fn is_shown(&self) -> bool
-        requires { IsSome (judged self.now).aim }
-        ensures { IsTrue result
-            ↔ IsShownFor (judged self.now).chip (judged self.now).aim (judged self.now).pair };
 
     /// How the partial pair stands.
     fn standing(&self) -> Standing
@@ -59,9 +55,15 @@ pub trait Judge {
         ensures same { judged self.new ≡ judged self.old }
         ensures step { IsStep (judged self.old) result };
 
-    /// The next step of an attempt, in which bits are set and taken back.
-    fn attempt(&mut self) -> Attempt
-        requires { IsSome (judged self.old).aim }
-        ensures same { judged self.new ≡ judged self.old }
-        ensures step { IsAttempted (judged self.old) result };
+    /// Looks for a pair that shows the defect, on a way with no more bits than the budget has branches, from the
+    /// pair of which no bit is set; bits are set and taken back without a code. Whether such a pair is in hand
+    /// then, with the tokens of the way to it. Else any pair may be in hand, and any tokens are there.
+    fn attempt(&mut self, numbers: &mut Vec<u16>, budget: u32) -> bool
+        requires aimed { IsSome (judged self.old).aim }
+        requires none { numbers.old.items ≡ [] }
+        requires room { 2 * budget + 1 ≤ vec_capacity numbers.old }
+        ensures aim { IsSameAim (judged self.old) (judged self.new) }
+        ensures found { IsTrue result → IsFoundWay (judged self.new) (tokens_of numbers.new.items) }
+        ensures within { length numbers.new.items ≤ budget }
+        ensures room { vec_capacity numbers.old ≤ vec_capacity numbers.new };
 }

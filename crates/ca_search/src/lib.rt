@@ -1,7 +1,6 @@
 //! The branching search for a partial pair that shows a defect, over a simulator and a guide.
 #![tactic(auto)]
 
-mod attempt;
 mod judge;
 mod laws;
 mod search;

@@ -6,7 +6,7 @@ ghost use Rattle.ca_search.specs.Judged.{IsSameAim};
 ghost use Rattle.ca_search.specs.code.Judged.{MayLeaveHere, MayDecideHere};
 ghost use Rattle.ca_search.specs.Tokens.{tokens_of};
 ghost use Rattle.ca_search.specs.Outcome.{IsOutcome};
-ghost use Rattle.ca_search.specs.code.Steps.{Follows, TrailStands, HasBegun, IsSameRoom};
+ghost use Rattle.ca_search.specs.code.Steps.{Follows, TrailStands, IsEmptied, IsSameRoom};
 ghost use Rattle.ca_search.specs.code.Steps.{IsMove, IsTurn, IsLeft};
 
 use crate::judge::{Judge, Standing};
@@ -65,25 +65,25 @@ impl Trail {
         ensures outcome { IsOutcome (J.judged judge.new) self.new.budget
             (tokens_of self.new.numbers.items) result }
     {
-        self.begin(judge);
-        if self.attempt(judge) {
+        self.empty(judge);
+        if judge.attempt(&mut self.numbers, self.budget) {
             judge.flat();
             return Outcome::Found;
         }
-        self.begin(judge);
+        self.empty(judge);
+        judge.clear();
         self.search(judge)
     }
 
-    // Unsets all bits, and takes back all tokens and decisions.
-    fn begin<J: Judge>(&mut self, judge: &mut J)
-        ensures begun { HasBegun (J.judged judge.old) (J.judged judge.new) self.new }
+    // Takes back all tokens and decisions.
+    fn empty<J: Judge>(&mut self, judge: &J)
+        ensures emptied { IsEmptied (J.judged judge.now) self.new }
         ensures budget { self.new.budget ≡ self.old.budget }
     {
         self.numbers.clear();
         self.decisions.clear();
         self.branches = 0;
         self.bits = judge.bit_count();
-        judge.clear();
     }
 
     // Searches with a code.

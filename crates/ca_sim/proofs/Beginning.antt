@@ -29,9 +29,9 @@ use Rattle.ca_flat.proofs.Undriven.{first_unknown, middle_unknown, last_unknown,
 use Rattle.ca_view.specs.Linked.{IsLinked, IsPinned}
 use Rattle.ca_sim.specs.Current.{IsCurrent, pair_wave}
 use Rattle.ca_places.specs.PlaceSet.{Has, HoldsUpTo}
-use Rattle.ca_sim.specs.Marking.{HasPlacesTo, HasAllPlaces}
+use Rattle.ca_sim.specs.code.Marking.{HasPlacesTo, HasAllPlaces}
 use Rattle.ca_places.specs.declared.place_set.PlaceSet.{PlaceSet}
-use Rattle.ca_sim.specs.Network.{HasConstantsFrom, HasConstants, IsUnderway}
+use Rattle.ca_sim.specs.code.Network.{HasConstantsFrom, HasConstants, IsUnderway}
 use Rattle.ca_sim.proofs.Feeding.{neq-eqb}
 use Rattle.ca_sim.proofs.WaveLemmas.{length-waves_from, wave_at-waves_from}
 

@@ -17,7 +17,8 @@ use Rattle.ca_places.specs.PlaceSet.{Has}
 use Rattle.ca_sim.specs.Simulator.{counted_up}
 use Rattle.ca_sim.specs.code.Simulator.{CountsOne}
 use Rattle.ca_sim.specs.declared.network.Network.{Network}
-use Rattle.ca_sim.specs.Network.{IsDue, IsFedAt, IsUnderway}
+use Rattle.ca_sim.specs.Network.{IsDue, IsFedAt}
+use Rattle.ca_sim.specs.code.Network.{IsUnderway}
 use Rattle.ca_sim.proofs.Feeding.{wave_of_input}
 use Rattle.ca_sim.proofs.Loading.{changed_first, changed_last}
 

@@ -25,7 +25,8 @@ use Rattle.ca_flat.proofs.NetInduction.{net_induction}
 use Rattle.ca_flat.proofs.InstanceWaves.{at_instance, output_value, rail_value, input_wave, part_limits}
 use Rattle.ca_flat.proofs.InstanceWaves.{ends_last, last_ends}
 use Rattle.ca_table.specs.Gives.{wave_at}
-use Rattle.ca_sim.specs.Current.{input_waves, output_waves, IsCurrent, IsDrivenIn, IsSimulated}
+use Rattle.ca_sim.specs.Current.{input_waves, output_waves, IsCurrent, IsSimulated}
+use Rattle.ca_sim.specs.code.Current.{IsDrivenIn}
 use Rattle.ca_flat.specs.Simulation.{IsFlattened}
 use Rattle.ca_sim.specs.Current.{none_due}
 use Rattle.ca_sim.specs.Laws.{DefiniteLastIsEnd, WavesAreThere}

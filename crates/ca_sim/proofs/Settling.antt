@@ -16,7 +16,8 @@ use Rattle.ca_view.specs.Linked.{IsLinked, IsPlaced}
 use Rattle.ca_places.specs.declared.place_set.PlaceSet.{PlaceSet}
 use Rattle.ca_sim.specs.declared.network.Network.{Network}
 use Rattle.ca_places.specs.PlaceSet.{Has, HoldsUpTo, IsNext}
-use Rattle.ca_sim.specs.Network.{IsDue, IsReady, NoneBefore, IsWrittenOut, IsSettled}
+use Rattle.ca_sim.specs.Network.{IsDue, IsReady, IsWrittenOut}
+use Rattle.ca_sim.specs.code.Network.{NoneBefore, IsSettled}
 use Rattle.ca_sim.proofs.StepLemmas.{written_waves, evaluated, more_due}
 use Rattle.ca_sim.proofs.WaveLemmas.{each_wave}
 

@@ -19,7 +19,8 @@ use Rattle.ca_flat.specs.Chain.{IsOutputOf}
 use Rattle.ca_flat.proofs.Detected.{other_circuit}
 use Rattle.ca_table.specs.Gives.{unknown_wave, wave_at, Gives}
 use Rattle.ca_sim.specs.Current.{input_waves, output_waves, IsCurrent, IsSimulated}
-use Rattle.ca_sim.specs.Changes.{IsWritten, IsFed, HasReadersDue}
+use Rattle.ca_sim.specs.Changes.{IsWritten, HasReadersDue}
+use Rattle.ca_sim.specs.code.Changes.{IsFed}
 use Rattle.ca_sim.proofs.WaveLemmas.{length-waves_from, wave_at-waves_from, same-waves_from}
 
 -- a net is an input or none

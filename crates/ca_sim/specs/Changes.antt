@@ -15,14 +15,6 @@ pub record IsWritten (chip : Chip) (u : ℕ) (outputs old new : List Wave) : Typ
       → wave_at new (output_net chip u output) ≡ wave_at outputs output
   pub others : (net : ℕ) → (IsOutputOf chip u net → ⊥) → wave_at new net ≡ wave_at old net
 
--- the input nets have the waves of the pair, and each other net has the wave that it had
-pub record IsFed (chip : Chip) (pair : List Trit) (old new : List Wave) : Type 0 where
-  pub count : length new ≡ length old
-  pub fed : (net : ℕ) → net < length chip.nets → net_kind chip net ≡ Input
-      → wave_at new net ≡ pair_wave chip pair net
-  pub others : (net : ℕ) → net < length chip.nets → (net_kind chip net ≡ Input → ⊥)
-      → wave_at new net ≡ wave_at old net
-
 -- an instance that isn't due has at its input nets the waves that it had
 abbrev pub HasReadersDue : Chip → (ℕ → Type 0) → List Wave → List Wave → Type 0
 HasReadersDue chip due old new =

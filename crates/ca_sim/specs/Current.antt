@@ -43,14 +43,6 @@ pub record IsSimulated (chip : Chip) (given : Option ChipDefect) (pair : List Tr
       → wave_at waves net ≡ pair_wave chip pair net
   pub current : (u : ℕ) → u < count_of chip → (due u → ⊥) → IsCurrent chip given waves u
 
--- each instance that drives the net is one of these
-abbrev pub IsDrivenIn : Chip → (ℕ → Type 0) → ℕ → Type 0
-IsDrivenIn chip in_set net = (drives : Drives chip net) → in_set drives.instance
-
 -- nothing is due
 abbrev pub none_due : ℕ → Type 0
 none_due u = ⊥
-
--- the waves of the good network while no bit is set
-abbrev pub AreUnset : Chip → List Wave → Type 0
-AreUnset chip waves = IsSimulated chip None (unset_pair chip) none_due waves

@@ -30,10 +30,6 @@ pub record IsReady (chip : Chip) (place_of : ℕ → ℕ) (net : Network) : Type
   pub room : HoldsUpTo net.due (count_of chip + 1)
   pub within : (place : ℕ) → Has net.due place → IsPlace chip place_of place
 
--- no place before this one is in the set
-abbrev pub NoneBefore : PlaceSet → ℕ → Type 0
-NoneBefore due end = (place : ℕ) → place < end → Has due place → ⊥
-
 -- A net is given a wave: its readers are due if that is another one, and all that was due.
 pub record IsPut (chip : Chip) (place_of : ℕ → ℕ) (net : ℕ) (wave : Wave) (old new : Network) : Type 0 where
   pub count : length new.waves ≡ length old.waves
@@ -56,14 +52,6 @@ pub record IsWrittenOut (chip : Chip) (place_of : ℕ → ℕ) (u : ℕ) (output
       → Has old.due place ⊎ ((place_of u < place) × IsPlace chip place_of place)
   pub room : (count : ℕ) → HoldsUpTo old.due count → HoldsUpTo new.due count
 
--- Whatever the pair is: where each instance that wasn't due was current, each is, and none is due.
-pub record IsSettled (chip : Chip) (place_of : ℕ → ℕ) (given : Option ChipDefect) (old new : Network) : Type 0
-  where
-    pub ready : IsReady chip place_of new
-    pub none : (place : ℕ) → Has new.due place → ⊥
-    pub current : (pair : List Trit) → IsSimulated chip given pair (IsDue place_of old.due) old.waves
-        → IsSimulated chip given pair none_due new.waves
-
 -- the net of a chip input is given the wave of its bits
 abbrev pub IsFedAt : Chip → (ℕ → ℕ) → ℕ → List Trit → Network → Network → Type 0
 IsFedAt chip place_of input bits old new =
@@ -78,24 +66,12 @@ pub record IsTurned (chip : Chip) (place_of : ℕ → ℕ) (given : Option ChipD
     pub here : (defect : ChipDefect) → given ≡ Some defect → Has new.due (place_of defect.instance)
     pub ready : IsReady chip place_of new
 
--- the network has the waves of these bits, but for instances that are due
-pub record IsUnderway (chip : Chip) (place_of : ℕ → ℕ) (given : Option ChipDefect) (bits : List Trit)
-    (net : Network) : Type 0 where
-  pub ready : IsReady chip place_of net
-  pub simulated : IsSimulated chip given bits (IsDue place_of net.due) net.waves
-
 -- none is due: the waves of all nets for these bits, good or with the defect
 pub record IsAtRest (chip : Chip) (place_of : ℕ → ℕ) (given : Option ChipDefect) (bits : List Trit)
     (net : Network) : Type 0 where
   pub ready : IsReady chip place_of net
   pub none : (place : ℕ) → Has net.due place → ⊥
   pub simulated : IsSimulated chip given bits none_due net.waves
-
--- a network without a defect, each instance of which is current
-pub record IsTwin (chip : Chip) (net : Network) : Type 0 where
-  pub count : length net.waves ≡ length chip.nets
-  pub are_waves : (n : ℕ) → IsWave (wave_at net.waves n)
-  pub current : (u : ℕ) → u < count_of chip → IsCurrent chip None net.waves u
 
 -- the same of this instance alone
 pub record IsTwinAt (chip : Chip) (u : ℕ) (net : Network) : Type 0 where
@@ -107,24 +83,3 @@ pub record IsTwinAt (chip : Chip) (u : ℕ) (net : Network) : Type 0 where
 pub record IsGiven (chip : Chip) (given : Option ChipDefect) (u : ℕ) (pins outputs : List Wave) : Type 0 where
   pub gives : Gives (cell_at chip u) (circuit_in chip given u) pins outputs
   pub are_waves : All IsWave outputs
-
--- the wave of each net while no bit is set: that of its constant, else none is known
-abbrev pub HasConstantsFrom : Chip → List Constant → List Wave → Type 0
-HasConstantsFrom chip constants waves =
-    (length waves ≡ length chip.nets)
-    × ((net : ℕ) → net < length chip.nets
-    → wave_at waves net ≡ pair_of (constant_value constants X net) (constant_value constants X net))
-
--- those of all constants
-abbrev pub HasConstants : Chip → List Wave → Type 0
-HasConstants chip waves = HasConstantsFrom chip chip.constants waves
-
--- the same waves, and nothing is due
-pub record IsRestingCopy (chip : Chip) (old new : Network) : Type 0 where
-  pub waves : new.waves ≡ old.waves
-  pub none : (place : ℕ) → Has new.due place → ⊥
-  pub room : HoldsUpTo new.due (count_of chip + 1)
-
--- where some place is due, at least one evaluation more is counted
-abbrev pub CountsDue : Network → ℕ → ℕ → Type 0
-CountsDue old before after = (place : ℕ) → Has old.due place → counted_up before ≤ after

@@ -30,9 +30,11 @@ pub struct Network {
 
 impl Network {
     ghost use Rattle.ca_places.specs.PlaceSet.{Has, HoldsUpTo};
-    ghost use Rattle.ca_sim.specs.Network.{IsPut, IsWrittenOut, IsFedAt, IsTurned, IsReady, IsSettled};
-    ghost use Rattle.ca_sim.specs.Network.{IsTwin, IsTwinAt, IsGiven, IsUnderway, IsRestingCopy};
-    ghost use Rattle.ca_sim.specs.Network.{CountsDue};
+    ghost use Rattle.ca_sim.specs.Network.{IsPut, IsWrittenOut, IsFedAt, IsTurned, IsReady};
+    ghost use Rattle.ca_sim.specs.code.Network.{IsSettled};
+    ghost use Rattle.ca_sim.specs.Network.{IsTwinAt, IsGiven};
+    ghost use Rattle.ca_sim.specs.code.Network.{IsTwin, IsUnderway, IsRestingCopy};
+    ghost use Rattle.ca_sim.specs.code.Network.{CountsDue};
     ghost use Rattle.std.specs.Prelude.{IsTrue};
     ghost use Rattle.ca_sim.specs.Current.{input_waves, output_waves, IsCurrent};
     ghost use Rattle.ca_sim.specs.code.Cells.{AreCells};
@@ -236,8 +238,9 @@ impl Network {
 }
 
 ghost use Rattle.ca_places.specs.PlaceSet.{Has, HoldsUpTo};
-ghost use Rattle.ca_sim.specs.Marking.{IsMarked, HasAllPlaces};
-ghost use Rattle.ca_sim.specs.Network.{HasConstants};
+ghost use Rattle.ca_sim.specs.Marking.{IsMarked};
+ghost use Rattle.ca_sim.specs.code.Marking.{HasAllPlaces};
+ghost use Rattle.ca_sim.specs.code.Network.{HasConstants};
 
 // The waves of the nets while no bit is set and no instance has been evaluated: those of constants are known.
 fn constant_waves(alloc: Global, chip: &View) -> Result<Waves, NoMemory>

@@ -27,9 +27,10 @@ impl Networks {
     ghost use Rattle.ca_view.specs.Linked.{IsAim, place_in};
     ghost use Rattle.ca_view.specs.Places.{cell_number};
     ghost use Rattle.ca_sim.specs.code.Cells.{AreCells};
-    ghost use Rattle.ca_sim.specs.Network.{CountsDue, IsReady, IsUnderway};
+    ghost use Rattle.ca_sim.specs.Network.{IsReady};
+    ghost use Rattle.ca_sim.specs.code.Network.{CountsDue, IsUnderway};
     ghost use Rattle.ca_sim.specs.code.Networks.{AreUnderway, AreAtRest, AreReady, MakesReadersDue};
-    ghost use Rattle.ca_sim.specs.Current.{AreUnset};
+    ghost use Rattle.ca_sim.specs.code.Current.{AreUnset};
     ghost use Rattle.ca_sim.specs.code.Loaded.{AreLoaded};
     ghost use Rattle.ca_flat.specs.Codes.{unset_pair};
 

@@ -8,8 +8,8 @@ use Rattle.ca_flat.specs.Pair.{bit_count}
 use Rattle.ca_view.specs.Linked.{IsLinked, IsPinned, IsAim}
 use Rattle.ca_places.specs.declared.place_set.PlaceSet.{PlaceSet}
 use Rattle.ca_sim.specs.declared.network.Network.{Network}
-use Rattle.ca_sim.specs.Current.{AreUnset}
-use Rattle.ca_sim.specs.Network.{IsUnderway}
+use Rattle.ca_sim.specs.code.Current.{AreUnset}
+use Rattle.ca_sim.specs.code.Network.{IsUnderway}
 use Rattle.ca_confined.specs.declared.scope.Scope.{Scope}
 use Rattle.ca_confined.specs.code.Scope.{IsScopeRoom, IsScope}
 use Rattle.ca_confined.specs.code.Settle.{NoneDue}

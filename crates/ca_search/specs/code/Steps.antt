@@ -11,8 +11,8 @@ use Rattle.ca_search.specs.declared.walk.Move.{Move}
 use Rattle.ca_search.specs.declared.walk.Move.TheVariants.{Stop, Leave, Branch}
 use Rattle.ca_search.specs.declared.trail.Trail.{Trail}
 use Rattle.ca_search.specs.SearchRules.{rules_for}
-use Rattle.ca_search.specs.Judged.{Judged, with_pair, IsShownFor}
-use Rattle.ca_search.specs.code.Judged.{MayLeaveHere, MayDecideHere, IsWayHere}
+use Rattle.ca_search.specs.Judged.{Judged, IsShownFor}
+use Rattle.ca_search.specs.code.Judged.{MayLeaveHere, MayDecideHere}
 use Rattle.ca_search.specs.Tokens.{tokens_of}
 use Rattle.ca_search.specs.Outcome.{Searched}
 
@@ -58,18 +58,11 @@ pub record TrailStands (judged : Judged) (trail : Trail) : Type 0 where
   pub stands : Stands judged (tokens_of trail.numbers.items) trail.decisions.items trail.branches trail.budget
   pub bits : trail.bits ≡ bit_count judged.chip
 
--- no bit is set, and there are no tokens and no decisions
-pub record HasBegun (old new : Judged) (trail : Trail) : Type 0 where
-  pub unset : new ≡ with_pair old (unset_pair old.chip)
+-- there are no tokens and no decisions
+pub record IsEmptied (judged : Judged) (trail : Trail) : Type 0 where
   pub numbers : trail.numbers.items ≡ []
   pub decisions : trail.decisions.items ≡ []
   pub branches : trail.branches ≡ 0
-  pub bits : trail.bits ≡ bit_count old.chip
-
--- the tokens of a trail are a way to the pair in hand, with no more bits than the budget has branches
-pub record AttemptStands (judged : Judged) (trail : Trail) : Type 0 where
-  pub way : IsWayHere judged (tokens_of trail.numbers.items)
-  pub within : length trail.numbers.items ≤ trail.budget
   pub bits : trail.bits ≡ bit_count judged.chip
 
 -- the budget is the same, and the number of pattern bits

@@ -8,7 +8,7 @@ use Rattle.ca_sim.specs.declared.cells.Cells.{Cells}
 use Rattle.ca_sim.specs.code.Cells.{AreCells}
 use Rattle.ca_sim.specs.declared.networks.Networks.{Networks}
 use Rattle.ca_sim.specs.code.Networks.{AreAtRest}
-use Rattle.ca_sim.specs.Current.{AreUnset}
+use Rattle.ca_sim.specs.code.Current.{AreUnset}
 use Rattle.ca_sim.specs.declared.loaded.Loaded.{Loaded}
 use Rattle.ca_sim.specs.code.Loaded.{AreLoaded}
 

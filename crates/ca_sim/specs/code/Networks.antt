@@ -6,7 +6,8 @@ use Rattle.ca_flat.specs.declared.chip_defect.ChipDefect.{ChipDefect}
 use Rattle.ca_flat.specs.Chip.{Chip}
 use Rattle.ca_flat.specs.Pair.{bit_count}
 use Rattle.ca_view.specs.Linked.{Reads}
-use Rattle.ca_sim.specs.Network.{IsDue, IsReady, IsUnderway, IsAtRest}
+use Rattle.ca_sim.specs.Network.{IsDue, IsReady, IsAtRest}
+use Rattle.ca_sim.specs.code.Network.{IsUnderway}
 use Rattle.ca_sim.specs.declared.networks.Networks.{Networks}
 
 -- there is room in both, and a value for each bit

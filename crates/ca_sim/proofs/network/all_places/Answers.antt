@@ -2,7 +2,7 @@ use Rattle.std.proofs.Common.{◌+◌, sym, subst, arith}
 use Rattle.ca_flat.specs.Chip.{count_of}
 use Rattle.ca_view.specs.Linked.{place_in}
 use Rattle.ca_places.proofs.PlaceLemmas.{holds_as}
-use Rattle.ca_sim.specs.Marking.{HasPlacesTo}
+use Rattle.ca_sim.specs.code.Marking.{HasPlacesTo}
 use Rattle.ca_sim.proofs.Beginning.{places_more, places_skip}
 use Rattle.ca_sim.proofs.network.all_places.Goals.{then-place-gt0, else-place-gt0}
 use Rattle.ca_sim.proofs.network.all_places.Goals as goal

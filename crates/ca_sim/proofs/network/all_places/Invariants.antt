@@ -1,5 +1,5 @@
 use Rattle.ca_view.specs.Linked.{place_in}
-use Rattle.ca_sim.specs.Marking.{HasPlacesTo}
+use Rattle.ca_sim.specs.code.Marking.{HasPlacesTo}
 use Rattle.ca_sim.proofs.network.all_places.Given as goal
 
 abbrev pub invariant-loop-u : goal.invariant-loop-u

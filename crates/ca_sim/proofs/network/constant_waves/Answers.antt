@@ -1,7 +1,7 @@
 use Rattle.std.proofs.Common.{ℕ, suc, ◌≡◌, ◌+◌, ◌-◌, drop, subst, arith}
 use Rattle.std.specs.Prelude.{Some, slice_get}
 use Rattle.ca_flat.specs.Chip.{Constant}
-use Rattle.ca_sim.specs.Network.{HasConstantsFrom}
+use Rattle.ca_sim.specs.code.Network.{HasConstantsFrom}
 use Rattle.ca_sim.proofs.Beginning.{constants_more}
 use Rattle.ca_sim.proofs.network.constant_waves.Goals as goal
 

@@ -1,5 +1,5 @@
 use Rattle.std.proofs.Common.{◌-◌, drop}
-use Rattle.ca_sim.specs.Network.{HasConstantsFrom}
+use Rattle.ca_sim.specs.code.Network.{HasConstantsFrom}
 use Rattle.ca_sim.proofs.network.constant_waves.Given as goal
 
 abbrev pub invariant-loop-k : goal.invariant-loop-k

@@ -5,7 +5,7 @@ use Rattle.ca_flat.specs.Pair.{bit_count}
 use Rattle.ca_flat.specs.Codes.{unset_pair}
 use Rattle.ca_view.specs.Linked.{IsAim, place_in}
 use Rattle.ca_sim.specs.Seen.{Seen}
-use Rattle.ca_sim.specs.Network.{IsUnderway}
+use Rattle.ca_sim.specs.code.Network.{IsUnderway}
 use Rattle.ca_sim.proofs.Keeping.{aim_listed}
 use Rattle.ca_sim.proofs.SimLemmas.{followed_faulty}
 use Rattle.ca_confined.specs.code.Kept.{IsConfined}

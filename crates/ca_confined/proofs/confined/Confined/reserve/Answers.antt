@@ -4,7 +4,7 @@ use Rattle.ca_net.specs.declared.trit.Trit.TheVariants.{X}
 use Rattle.ca_flat.specs.Pair.{bit_count}
 use Rattle.ca_flat.specs.Codes.{unset_pair}
 use Rattle.ca_view.specs.Linked.{place_in}
-use Rattle.ca_sim.specs.Current.{AreUnset}
+use Rattle.ca_sim.specs.code.Current.{AreUnset}
 use Rattle.ca_confined.specs.code.Kept.{IsConfined}
 use Rattle.ca_confined.proofs.ConfinedLemmas.{unset_of, confined_at_rest}
 use Rattle.ca_confined.proofs.confined.Confined.reserve.Goals as goal

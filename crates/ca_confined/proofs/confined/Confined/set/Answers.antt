@@ -2,7 +2,7 @@ use Rattle.std.proofs.Common.{◌∙◌, length, ap, None}
 use Rattle.std.proofs.lemmas.List.{length-set}
 use Rattle.ca_view.specs.Linked.{place_in}
 use Rattle.ca_view.specs.Places.{cell_number}
-use Rattle.ca_sim.specs.Network.{IsUnderway}
+use Rattle.ca_sim.specs.code.Network.{IsUnderway}
 use Rattle.ca_confined.proofs.ConfinedLemmas.{twin_in, twin_given, confined_settled, confined_fed}
 use Rattle.ca_confined.proofs.confined.Confined.set.Goals as goal
 

@@ -7,4 +7,4 @@ pub guide_to-requires-clause-defect : goal.guide_to-requires-clause-defect
 guide_to-requires-clause-defect g c =
     let aim = subst (λ sim. IsAim sim.seen.chip (place_in sim.seen.places) c.args.defect) (sym c.self.view_is)
     c.requires in
-    aim_in_chip _ _ _ c.args.defect c.self.invariant.same aim
+    aim_in_chip _ _ _ c.args.defect c.self.invariant.0.same aim

@@ -10,7 +10,7 @@ use Rattle.ca_judge.proofs.chip_judge.ChipJudgeJudge.standing.Goals as goal
 pub standing-requires : goal.standing-requires
 standing-requires g c =
     subst (All (λ net. net < length c.self.inside.sim.seen.chip.nets)) (sym c.deref.ensures.value)
-    (outputs_within c.self.inside.sim.seen _ _ _ _ c.self.inside.outputs.items _ c.self.invariant)
+    (outputs_within c.self.inside.sim.seen _ _ _ _ c.self.inside.outputs.items _ c.self.invariant.0)
 
 pub returns : goal.returns
 returns g c =
@@ -19,5 +19,5 @@ returns g c =
     let looks = subst (λ outputs. LooksSo inside.sim.seen outputs c.standing.result) c.deref.ensures.value
     c.standing.ensures in
     subst (λ sim. IsStanding (judged_of sim.seen) c.standing.result) c.self.view_is
-    (judge_stands inside.sim.seen _ _ _ _ inside.outputs.items _ c.self.invariant c.exact.ensures some
+    (judge_stands inside.sim.seen _ _ _ _ inside.outputs.items _ c.self.invariant.0 c.exact.ensures some
     c.standing.result looks)

@@ -1,7 +1,8 @@
 use Rattle.std.specs.Prelude.{◌≡◌, length, None}
 use Rattle.ca_flat.specs.Pair.{bit_count}
 use Rattle.ca_view.specs.Linked.{place_in}
-use Rattle.ca_sim.specs.Network.{IsReady, IsUnderway}
+use Rattle.ca_sim.specs.Network.{IsReady}
+use Rattle.ca_sim.specs.code.Network.{IsUnderway}
 use Rattle.ca_sim.proofs.Loading.{IsLoadedTo}
 use Rattle.ca_sim.proofs.networks.Networks.feed_all.Given as goal
 

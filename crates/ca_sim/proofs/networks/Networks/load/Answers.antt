@@ -3,7 +3,8 @@ use Rattle.std.specs.Prelude.{None}
 use Rattle.ca_view.specs.Linked.{place_in}
 use Rattle.ca_sim.specs.declared.network.Network.{Network}
 use Rattle.ca_sim.specs.Current.{IsSimulated, none_due}
-use Rattle.ca_sim.specs.Network.{IsAtRest, IsUnderway}
+use Rattle.ca_sim.specs.Network.{IsAtRest}
+use Rattle.ca_sim.specs.code.Network.{IsUnderway}
 use Rattle.ca_sim.proofs.SimLemmas.{at_rest, twin_at_rest, twin_given, followed_good, followed_ready, followed_faulty}
 use Rattle.ca_sim.proofs.networks.Networks.load.Goals as goal
 

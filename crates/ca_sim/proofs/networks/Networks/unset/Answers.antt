@@ -4,7 +4,7 @@ use Rattle.ca_net.specs.declared.trit.Trit.TheVariants.{X}
 use Rattle.ca_flat.specs.Pair.{bit_count}
 use Rattle.ca_flat.specs.Codes.{unset_pair}
 use Rattle.ca_view.specs.Linked.{place_in}
-use Rattle.ca_sim.specs.Network.{IsUnderway}
+use Rattle.ca_sim.specs.code.Network.{IsUnderway}
 use Rattle.ca_sim.specs.declared.network.Network.{Network}
 use Rattle.ca_sim.proofs.SimLemmas.{followed_ready, unset_good, followed_faulty}
 use Rattle.ca_sim.proofs.networks.Networks.unset.Goals as goal
