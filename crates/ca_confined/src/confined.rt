@@ -1,6 +1,7 @@
 //! A simulator that is confined to the scope of the defect that is aimed at.
 
-ghost use Rattle.std.specs.Prelude.{◌≡◌, ◌<◌, ◌+◌, ◌*◌, ◌↔◌, length, slice_set, IfOk, IsFalse, IsTrue, Some, None};
+ghost use Rattle.std.specs.Prelude.{◌≡◌, ◌<◌, ◌+◌, ◌*◌, ◌↔◌, length, slice_set};
+ghost use Rattle.std.specs.Prelude.{IfOk, IsFalse, IsTrue, Some, None};
 ghost use Rattle.ca_net.specs.State.{value_at};
 ghost use Rattle.ca_table.specs.Gives.{wave_at};
 ghost use Rattle.ca_sim.specs.Seen.{value_of};
@@ -17,10 +18,10 @@ use ca_view::View;
 use std::alloc::Global;
 use std::marker::Model;
 
-/// The waves of a chip without a defect and with the one that is aimed at, for the bits that are set. They are
-/// those of the flat networks at the nets that lead to an observed output which the instance of the defect
-/// reaches; of other nets nothing is said. All memory is taken by `reserve`. Cells respond by a simulator of
-/// the same chip, which is handed over with each call.
+/// The waves of a chip without a defect and with the one that is aimed at, for the bits that are set. They
+/// are those of the flat networks at the nets that lead to an observed output which the instance of the
+/// defect reaches; of other nets nothing is said. All memory is taken by `reserve`. Cells respond by a
+/// simulator of the same chip, which is handed over with each call.
 #[derive(Drop)]
 pub struct Confined<'a> {
     chip: &'a View<'a>,
@@ -73,6 +74,7 @@ impl<'a> Confined<'a> {
         ensures chip { IfOk result (λ s. s.chip ≡ chip.now.core) }
         ensures places { IfOk result (λ s. s.places ≡ chip.now.ranks) }
         ensures aim { IfOk result (λ s. s.aim ≡ None) }
+        ensures pair { IfOk result (λ s. s.pair ≡ unset_pair chip.now.core) }
     {
         chip.linked();
         let good = sim.unset(alloc)?;
@@ -231,7 +233,8 @@ fn turn_to(scope: &mut Scope, part: &mut Option<u32>, chip: &View, aim: Option<C
 fn restore(network: &mut Network, chip: &View, unset: &Waves)
     requires ready { IsReady chip.now.core (place_in chip.now.ranks) network.old }
     requires unset { AreUnset chip.now.core unset.now }
-    ensures rest { IsAtRest chip.now.core (place_in chip.now.ranks) None (unset_pair chip.now.core) network.new }
+    ensures rest { IsAtRest chip.now.core (place_in chip.now.ranks) None (unset_pair chip.now.core)
+        network.new }
     ensures waves { network.new.waves ≡ unset.now }
 {
     chip.linked();

@@ -17,9 +17,9 @@ use ca_response::{OutWaves, PinWaves};
 use ca_sim::{Network, Sim};
 use ca_view::View;
 
-/// Evaluates the instances of a scope that are due, in the order, until none of them is. Where there is a good
-/// network beside this one, and an instance has its waves at the input pins and no defect, the instance has
-/// them at the output pins too.
+/// Evaluates the instances of a scope that are due, in the order, until none of them is. Where there is a
+/// good network beside this one, and an instance has its waves at the input pins and no defect, the instance
+/// has them at the output pins too.
 pub(crate) fn settle(
     network: &mut Network,
     chip: &View,

@@ -10,8 +10,8 @@ use crate::guide_waves::GuideWaves;
 use crate::outputs::observed_nets;
 use crate::standing::standing;
 use ca_base::NoMemory;
-use ca_flat::{ChipDefect, ExposingRows};
 use ca_confined::Confined;
+use ca_flat::{ChipDefect, ExposingRows};
 use ca_guide::{Choice, Guide, Step, is_some_row_allowed};
 use ca_net::Wave;
 use ca_search::{Judge, Standing};
@@ -250,7 +250,7 @@ impl<R: ExposingRows, P: Choice + Drop> Judge for ChipJudge<'_, R, P> {
                 if found {
                     self.sim.exact();
                     self.confined.whole();
-                    self.sim.load(self.confined.pair());
+                    self.sim.load_sparse(self.confined.pair());
                 }
                 found
             }

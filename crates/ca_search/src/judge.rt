@@ -55,9 +55,9 @@ pub trait Judge {
         ensures same { judged self.new ≡ judged self.old }
         ensures step { IsStep (judged self.old) result };
 
-    /// Looks for a pair that shows the defect, on a way with no more bits than the budget has branches, from the
-    /// pair of which no bit is set; bits are set and taken back without a code. Whether such a pair is in hand
-    /// then, with the tokens of the way to it. Else any pair may be in hand, and any tokens are there.
+    /// Looks for a pair that shows the defect, on a way with no more bits than the budget has branches, from
+    /// the pair of which no bit is set; bits are set and taken back without a code. Whether such a pair is in
+    /// hand then, with the tokens of the way to it. Else any pair may be in hand, and any tokens are there.
     fn attempt(&mut self, numbers: &mut Vec<u16>, budget: u32) -> bool
         requires aimed { IsSome (judged self.old).aim }
         requires none { numbers.old.items ≡ [] }

@@ -1,6 +1,5 @@
 -- What a simulator keeps gives the waves of the flat networks.
 use Rattle.std.proofs.Common.{ℕ, List, Option, None, Some}
-use Rattle.ca_net.specs.declared.wave.Wave.{Wave}
 use Rattle.ca_flat.specs.declared.chip_defect.ChipDefect.{ChipDefect}
 use Rattle.ca_flat.specs.Chip.{Chip, IsChipDefect}
 use Rattle.ca_view.specs.Linked.{IsAim}
@@ -17,7 +16,7 @@ aim_listed chip place_of None is = tt
 aim_listed chip place_of (Some defect) is = is.defect_is
 
 -- the waves are exact
-pub kept_is_exact : (chip : Chip) (places : List ℕ) (place_of number_of : ℕ → ℕ) (aim : Option ChipDefect) (nets : Networks) (unset : List Wave) (loaded : Loaded) (cells : Cells)
+pub kept_is_exact : (chip : Chip) (places : List ℕ) (place_of number_of : ℕ → ℕ) (aim : Option ChipDefect) (nets : Networks) (unset loaded : Loaded) (cells : Cells)
     → IsKept chip place_of number_of aim nets unset loaded cells
     → IsExact (record { chip = chip; places = places; aim = aim; pair = nets.bits; good = nets.good.waves; faulty = nets.faulty.waves })
 kept_is_exact chip places place_of number_of aim nets unset loaded cells kept = record {

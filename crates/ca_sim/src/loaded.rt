@@ -1,4 +1,4 @@
-//! The pair that was loaded last.
+//! Waves that are kept with their bits, from which a pair is loaded.
 
 use crate::waves::Waves;
 use ca_net::State;

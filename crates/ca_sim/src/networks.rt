@@ -93,40 +93,48 @@ impl Networks {
         }
     }
 
-    /// Gives all chip inputs their bits, and evaluates the instances that are due after that: those that see
-    /// other bits than under the pair that was loaded last, whose waves are there. The faulty network takes
-    /// over the waves of the good one, so that only what its defect changes is evaluated there.
+    /// Gives all chip inputs their bits, and evaluates the instances that see other ones than under those of
+    /// which the waves are there. The faulty network takes over the waves of the good one, so that only what
+    /// its defect changes is evaluated there.
     pub(crate) fn load<B: Bits>(
         &mut self,
         chip: &View,
         aim: Option<ChipDefect>,
         bits: &B,
-        loaded: &mut Loaded,
+        from: &Loaded,
         cells: &mut Cells,
     )
         requires aim { IsAim chip.now.core (place_in chip.now.ranks) aim }
         requires count { length (B.bits bits.now) ≡ bit_count chip.now.core }
         requires rest { AreAtRest chip.now.core (place_in chip.now.ranks) aim self.old }
-        requires loaded { AreLoaded chip.now.core loaded.old }
+        requires from { AreLoaded chip.now.core from.now }
         requires cells { AreCells chip.now.core (place_in chip.now.ranks)
             (cell_number chip.now.chip) cells.old }
 
         ensures bits { self.new.bits ≡ B.bits bits.now }
-        ensures loaded { AreLoaded chip.now.core loaded.new }
         ensures rest { AreAtRest chip.now.core (place_in chip.now.ranks) aim self.new }
         ensures cells { AreCells chip.now.core (place_in chip.now.ranks)
             (cell_number chip.now.chip) cells.new }
     {
         chip.linked();
-        copy(&loaded.bits, &mut self.bits);
-        self.good.waves.take_over(&loaded.waves);
+        copy(&from.bits, &mut self.bits);
+        self.good.waves.take_over(&from.waves);
         self.feed_all(chip, bits);
         self.good.settle(chip, None, None, cells);
-        copy(&self.bits, &mut loaded.bits);
-        loaded.waves.take_over(&self.good.waves);
         self.faulty.waves.take_over(&self.good.waves);
         self.faulty.turn(chip, aim);
         self.faulty.settle(chip, aim, Some(&self.good), cells);
+    }
+
+    /// Keeps the bits and the waves of the good network.
+    pub(crate) fn keep(&self, chip: &View, aim: Option<ChipDefect>, loaded: &mut Loaded)
+        requires rest { AreAtRest chip.now.core (place_in chip.now.ranks) aim self.now }
+        requires loaded { AreLoaded chip.now.core loaded.old }
+        ensures { AreLoaded chip.now.core loaded.new }
+    {
+        let _ = (chip, aim);
+        copy(&self.bits, &mut loaded.bits);
+        loaded.waves.take_over(&self.good.waves);
     }
 
     /// Unsets all bits. The waves of the good network without any are there, and the faulty one takes them

@@ -10,7 +10,6 @@ use crate::loaded::Loaded;
 use crate::net_waves::NetWaves;
 use crate::network::Network;
 use crate::networks::Networks;
-use crate::waves::Waves;
 use ca_base::NoMemory;
 use ca_flat::ChipDefect;
 use ca_net::{State, Trit, Wave};
@@ -27,8 +26,9 @@ pub struct Sim<'a> {
     chip: &'a View<'a>,
     aim: Option<ChipDefect>,
     networks: Networks,
-    // the waves of the good network while no bit is set
-    unset: Waves,
+    // no bit, and the waves of the good network while none is set
+    unset: Loaded,
+    // the pair that was loaded last
     loaded: Loaded,
     cells: Cells,
     aimed: u64,
@@ -84,7 +84,10 @@ impl<'a> Sim<'a> {
         let mut cells = Cells::reserve(alloc, chip)?;
         let mut good = Network::reserve(alloc, chip)?;
         good.settle(chip, None, None, &mut cells);
-        let unset = good.waves.copy(alloc)?;
+        let unset = Loaded {
+            bits: State::unknown(alloc, 2 * chip.input_count())?,
+            waves: good.waves.copy(alloc)?,
+        };
         let loaded = Loaded {
             bits: State::unknown(alloc, 2 * chip.input_count())?,
             waves: good.waves.copy(alloc)?,
@@ -140,7 +143,22 @@ impl<'a> Sim<'a> {
     {
         let chip = self.chip;
         self.networks
-            .load(chip, self.aim, bits, &mut self.loaded, &mut self.cells);
+            .load(chip, self.aim, bits, &self.loaded, &mut self.cells);
+        self.networks.keep(chip, self.aim, &mut self.loaded);
+    }
+
+    /// Gives all bits their values as `load` does, and evaluates the instances that see other ones than
+    /// while none is set. It is for a pair of which few are: the pair that `load` begins at stays.
+    #[tactic(auto, using(crate::proofs::SimLemmas::unset_is_loaded))]
+    pub fn load_sparse<B: Bits>(&mut self, bits: &B)
+        requires { length (B.bits bits.now) ≡ length self.old.seen.pair }
+
+        ensures pair { self.new.seen.pair ≡ B.bits bits.now }
+        ensures kept { KeepsAim self.old self.new }
+    {
+        let chip = self.chip;
+        self.networks
+            .load(chip, self.aim, bits, &self.unset, &mut self.cells);
     }
 
     /// Unsets all bits.
@@ -149,7 +167,7 @@ impl<'a> Sim<'a> {
         ensures kept { KeepsAim self.old self.new }
     {
         let chip = self.chip;
-        self.networks.unset(chip, self.aim, &self.unset);
+        self.networks.unset(chip, self.aim, &self.unset.waves);
         self.networks.settle(chip, self.aim, &mut self.cells);
     }
 
@@ -206,7 +224,7 @@ impl<'a> Sim<'a> {
         let chip = self.chip;
         chip.linked();
         Ok(Network {
-            waves: self.unset.copy(alloc)?,
+            waves: self.unset.waves.copy(alloc)?,
             due: PlaceSet::reserve(alloc, chip.instances() + 1)?,
         })
     }

@@ -29,4 +29,5 @@ pub record IsOppositeIn (outputs : PlaceSet) (good faulty : List Wave) : Type 0 
 
 -- at no net of the set before this one do they
 abbrev pub NoneOpposite : PlaceSet → List Wave → List Wave → ℕ → Type 0
-NoneOpposite outputs good faulty end = (net : ℕ) → net < end → Has outputs net → AreOppositeAt good faulty net → ⊥
+NoneOpposite outputs good faulty end =
+    (net : ℕ) → net < end → Has outputs net → AreOppositeAt good faulty net → ⊥

@@ -23,8 +23,8 @@ NoneBefore scope due end = (place : ℕ) → place < end → Has due place → H
 abbrev pub NoneDue : PlaceSet → PlaceSet → Type 0
 NoneDue scope due = (place : ℕ) → Has due place → Has scope place → ⊥
 
--- Whatever the pair is: where each instance that wasn't due was current, each that isn't due is, and no place of
--- the scope before this one is due.
+-- Whatever the pair is: where each instance that wasn't due was current, each that isn't due is, and no place
+-- of the scope before this one is due.
 pub record IsSettledTo (chip : Chip) (place_of : ℕ → ℕ) (given : Option ChipDefect) (scope : PlaceSet)
     (from : ℕ) (old new : Network) : Type 0 where
   pub ready : IsReady chip place_of new

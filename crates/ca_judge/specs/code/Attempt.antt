@@ -14,7 +14,8 @@ use Rattle.ca_search.specs.Judged.{IsWayHere}
 use Rattle.ca_sim.specs.Seen.{Seen}
 use Rattle.ca_judge.specs.ChipJudge.{judged_of}
 
--- the lists are those of the chip, the guide has the support of the defect, and the flat networks are networks
+-- the lists are those of the chip, the guide has the support of the defect, and the flat networks are
+-- networks
 pub record IsAimed (core : Chip) (lists : NetLists) (guided : Guided) (defect : ChipDefect) : Type 0 where
   pub nets : AreNetsOf core lists
   pub room : HasRoomFor lists guided

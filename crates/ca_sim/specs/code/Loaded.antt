@@ -1,4 +1,4 @@
--- What only proofs of code cite: what is kept of the pair that was loaded last.
+-- What only proofs of code cite: bits that are kept with their waves.
 use Rattle.std.specs.Prelude.{◌≡◌, length, None}
 use Rattle.ca_flat.specs.Chip.{Chip}
 use Rattle.ca_flat.specs.Pair.{bit_count}

@@ -32,3 +32,6 @@ invariant_of-result c =
       scope_of = tt;
       scope_at = tt;
     }
+
+pub returns-clause-pair : goal.returns-clause-pair
+returns-clause-pair c = c.in_ok-unknown.ensures ∙ ap (λ k. replicate (2 * k) X) c.input_count.ensures

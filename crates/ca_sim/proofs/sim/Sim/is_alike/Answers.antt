@@ -21,6 +21,7 @@ returns-in-Some-clause-alike c alike =
       linked = kept.linked;
       aim_is = aim_is;
       rest = c.is_alike.ensures.rest alike;
+      no_bit = kept.no_bit;
       unset_are = kept.unset_are;
       loaded_are = kept.loaded_are;
       rooms = kept.rooms;

@@ -19,7 +19,7 @@ invariant_of-result c =
     let core = c.args.chip.now.core in
     let place_of = place_in c.args.chip.now.ranks in
     let unset : c.in_ok-bits.bits ≡ unset_pair core = c.in_ok-bits.ensures ∙ ap (λ k. replicate (2 * k) X) c.input_count.ensures in
-    let loaded : c.in_ok-unknown.field-0 ≡ unset_pair core = c.in_ok-unknown.ensures ∙ ap (λ k. replicate (2 * k) X) c.input_count-2.ensures in
+    let loaded : c.in_ok-unknown-2.field-0 ≡ unset_pair core = c.in_ok-unknown-2.ensures ∙ ap (λ k. replicate (2 * k) X) c.input_count-3.ensures in
     let good : IsAtRest core place_of None (unset_pair core) c.settle.new.self =
     at_rest core place_of None (unset_pair core) c.in_ok-good.good c.settle.new.self c.in_ok-good.ensures c.settle.ensures.settled in
     record {
@@ -31,11 +31,12 @@ invariant_of-result c =
         faulty = subst (λ bits. IsAtRest core place_of None bits c.in_ok-faulty.faulty) (sym unset)
             (copy_at_rest core place_of None (unset_pair core) c.settle.new.self c.in_ok-faulty.faulty good c.in_ok-faulty.ensures);
       };
-      unset_are = subst (IsSimulated core None (unset_pair core) none_due) (sym c.in_ok-unset.ensures) good.simulated;
+      no_bit = c.in_ok-unknown.ensures ∙ ap (λ k. replicate (2 * k) X) c.input_count-2.ensures;
+      unset_are = subst (IsSimulated core None (unset_pair core) none_due) (sym c.in_ok-copy.ensures) good.simulated;
       loaded_are = record {
         count = ap length loaded ∙ length-replicate (bit_count core) X;
-        simulated = subst (λ bits. IsSimulated core None bits none_due c.in_ok-copy.field-0) (sym loaded)
-            (subst (IsSimulated core None (unset_pair core) none_due) (sym c.in_ok-copy.ensures) good.simulated);
+        simulated = subst (λ bits. IsSimulated core None bits none_due c.in_ok-copy-2.field-0) (sym loaded)
+            (subst (IsSimulated core None (unset_pair core) none_due) (sym c.in_ok-copy-2.ensures) good.simulated);
       };
       rooms = record {
         rooms = subst (AreCellRooms core place_of (cell_number c.args.chip.now.chip)) (sym c.counted_anew.ensures.rooms) c.settle.ensures.cells.rooms;
