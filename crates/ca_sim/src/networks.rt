@@ -27,7 +27,7 @@ impl Networks {
     ghost use Rattle.ca_view.specs.Linked.{IsAim, place_in};
     ghost use Rattle.ca_view.specs.Places.{cell_number};
     ghost use Rattle.ca_sim.specs.code.Cells.{AreCells};
-    ghost use Rattle.ca_sim.specs.Network.{IsReady};
+    ghost use Rattle.ca_sim.specs.Network.{IsReady, IsAtRest};
     ghost use Rattle.ca_sim.specs.code.Network.{CountsDue, IsUnderway};
     ghost use Rattle.ca_sim.specs.code.Networks.{AreUnderway, AreAtRest, AreReady, MakesReadersDue};
     ghost use Rattle.ca_sim.specs.code.Current.{AreUnset};
@@ -127,12 +127,13 @@ impl Networks {
     }
 
     /// Keeps the bits and the waves of the good network.
-    pub(crate) fn keep(&self, chip: &View, aim: Option<ChipDefect>, loaded: &mut Loaded)
-        requires rest { AreAtRest chip.now.core (place_in chip.now.ranks) aim self.now }
+    pub(crate) fn keep(&self, chip: &View, loaded: &mut Loaded)
+        requires bits { length self.now.bits ≡ bit_count chip.now.core }
+        requires rest { IsAtRest chip.now.core (place_in chip.now.ranks) None self.now.bits self.now.good }
         requires loaded { AreLoaded chip.now.core loaded.old }
         ensures { AreLoaded chip.now.core loaded.new }
     {
-        let _ = (chip, aim);
+        chip.linked();
         copy(&self.bits, &mut loaded.bits);
         loaded.waves.take_over(&self.good.waves);
     }

@@ -144,7 +144,7 @@ impl<'a> Sim<'a> {
         let chip = self.chip;
         self.networks
             .load(chip, self.aim, bits, &self.loaded, &mut self.cells);
-        self.networks.keep(chip, self.aim, &mut self.loaded);
+        self.networks.keep(chip, &mut self.loaded);
     }
 
     /// Gives all bits their values as `load` does, and evaluates the instances that see other ones than
