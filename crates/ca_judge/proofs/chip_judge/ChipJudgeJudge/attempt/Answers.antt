@@ -8,8 +8,8 @@ pub attempt-found-requires-clause-aimed : goal.attempt-found-requires-clause-aim
 attempt-found-requires-clause-aimed g c =
     aimed_for c.self.inside.sim.seen _ _ _ _ _ _ c.self.invariant.0 c.in-Some.defect c.in-Some.is
 
-pub load-requires : goal.load-requires
-load-requires g c =
+pub load_sparse-requires : goal.load_sparse-requires
+load_sparse-requires g c =
     let chip_is = c.attempt-found.ensures.way.chip_is ∙ c.self.invariant.0.same
     ∙ sym (ap (λ (seen : Seen). seen.chip) (c.attempt-found.ensures.kept.seen ∙ c.begin-in-Some.ensures.kept.seen)) in
     ap length c.pair.ensures ∙ c.whole.ensures.bits ∙ ap bit_count chip_is ∙ sym c.exact.ensures.whole.bits
