@@ -36,8 +36,8 @@ fn guide_to(guide: &mut Guide, view: &View<'_>, defect: Option<ChipDefect>)
 #[derive(Drop)]
 pub struct ChipJudge<'a, R: ExposingRows, P: Choice + Drop> {
     sim: Sim<'a>,
-    // the waves of an attempt
-    confined: Confined<'a>,
+    // the waves of an attempt, in a box: so a judge has fewer parts to the prover
+    confined: Box<Confined<'a>>,
     view: &'a View<'a>,
     rows: &'a R,
     guide: Guide,
@@ -50,6 +50,7 @@ pub struct ChipJudge<'a, R: ExposingRows, P: Choice + Drop> {
 impl<'a, R: ExposingRows, P: Choice + Drop> Model for ChipJudge<'a, R, P> {
     ghost use Rattle.ca_sim.specs.Simulator.{Simulator};
     ghost use Rattle.ca_judge.specs.code.ChipJudge.{IsChipJudge};
+    ghost use Rattle.std.specs.Prelude.{box_value};
     ghost use Rattle.ca_judge.specs.code.Attempt.{IsTried};
 
     ghost Value = { Simulator };
@@ -58,7 +59,7 @@ impl<'a, R: ExposingRows, P: Choice + Drop> Model for ChipJudge<'a, R, P> {
 
     ghost invariant = { λ judge. IsChipJudge judge.sim.seen.chip judge.sim.seen.aim judge.view.now.core
         judge.view.now.lists (R.chip judge.rows.now) judge.guide judge.outputs.items judge.defect
-        × IsTried judge.sim.seen judge.confined };
+        × IsTried judge.sim.seen (box_value judge.confined) };
 }
 
 impl<'a, R: ExposingRows, P: Choice + Drop> ChipJudge<'a, R, P> {
@@ -90,7 +91,7 @@ impl<'a, R: ExposingRows, P: Choice + Drop> ChipJudge<'a, R, P> {
         let outputs = observed_nets(alloc, view)?;
         let guide = Guide::reserve(alloc, view)?;
         let sim = Sim::reserve(alloc, view)?;
-        let confined = Confined::reserve(alloc, view, &sim)?;
+        let confined = Box::new(alloc, Confined::reserve(alloc, view, &sim)?)?;
         Ok(ChipJudge {
             sim,
             confined,
@@ -232,7 +233,8 @@ impl<R: ExposingRows, P: Choice + Drop> Judge for ChipJudge<'_, R, P> {
         match self.defect {
             Some(defect) => {
                 self.choice.begin();
-                self.confined.begin(Some(defect), &mut self.sim);
+                let confined = &mut *self.confined;
+                confined.begin(Some(defect), &mut self.sim);
                 let aimed = Aimed {
                     view: self.view,
                     guide: &self.guide,
@@ -240,17 +242,11 @@ impl<R: ExposingRows, P: Choice + Drop> Judge for ChipJudge<'_, R, P> {
                     defect,
                     budget,
                 };
-                let found = attempt(
-                    &aimed,
-                    &mut self.confined,
-                    &mut self.sim,
-                    &mut self.choice,
-                    numbers,
-                );
+                let found = attempt(&aimed, confined, &mut self.sim, &mut self.choice, numbers);
                 if found {
                     self.sim.exact();
-                    self.confined.whole();
-                    self.sim.load_sparse(self.confined.pair());
+                    confined.whole();
+                    self.sim.load_sparse(confined.pair());
                 }
                 found
             }
