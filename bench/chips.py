@@ -1,11 +1,12 @@
 #!/usr/bin/env python3
 """Measures test generation: seconds of user time, memory and verdicts, a CSV record for each run.
 
-usage: bench/chips.py PROGRAM [examples|mapped|aes|made|rows|large].. [--budgets N,N..] [--most N]
+usage: bench/chips.py PROGRAM [examples|mapped|wide|aes|made|rows|large].. [--budgets N,N..] [--most N]
 
 examples  the chips of examples/
 mapped    bench/rtl mapped to OSU's library for 0.35 micrometres, where Debian's yosys and qflow-tech-osu035 are installed
-aes       an AES core of bench/rtl, mapped in the same way: some 12,000 instances; not among the sets that run by themselves
+wide      a multiplier of 16 bits, and the same with a sum and scan chains, of the library's full adders; not among the sets that run by themselves
+aes       an AES core of bench/rtl, mapped in the same way: some 12,000 instances; nor is it
 made      `make N`, for N from 64 to --most (4,096 if it isn't said)
 rows      `check` of rows of inverters up to 32,768, and one more, which is refused
 large     `check` of a gate netlist of nearly 64 MiB, which has too many instances, and of one with a million `assign`s
@@ -20,9 +21,10 @@ import tempfile
 HERE = os.path.dirname(os.path.abspath(__file__))
 TOP = os.path.dirname(HERE)
 OSU = "/usr/share/qflow/tech/osu035"
-# the multiplier again, of the library's full adders
+# what is made of the library's full adders
 ADDERS = ("alumacc; maccmap; opt_clean; read_liberty -lib {lib}; techmap -map {here}/full_adders.v; techmap; opt -fast;"
-          " abc -liberty {lib}; splitnets; opt_clean -purge; clean").format(lib=f"{OSU}/osu035_stdcells.lib", here=HERE)
+          "{flops} abc -liberty {lib}; splitnets; opt_clean -purge; clean")
+LIB = f"{OSU}/osu035_stdcells.lib"
 # each design, and whether it has flip-flops
 DESIGNS = {"mult8": False, "alu8": False, "sec8": False, "sec32": False, "counter": True, "crc16": True, "fsm": True}
 
@@ -97,6 +99,20 @@ def netlist_of(folder, name, is_clocked, flags=""):
     netlist = f"{folder}/{name}.v"
     subprocess.run(["yosys", "-q", "-p", f"read_verilog {HERE}/rtl/{name}.v; synth -flatten {flags} -top {name}; {flops} abc -liberty {OSU}/osu035_stdcells.lib;"
                     f" opt_clean -purge; splitnets; write_verilog -noattr -noexpr -nodec {netlist}"], check=True)
+    return with_scan(netlist, is_clocked)
+
+
+def of_adders(folder, name, is_clocked):
+    """The same for a design of the library's full adders."""
+    netlist = f"{folder}/{name}_fa.v"
+    adders = ADDERS.format(lib=LIB, here=HERE, flops=f" dfflibmap -liberty {LIB};" if is_clocked else "")
+    subprocess.run(["yosys", "-q", "-p", f"read_verilog {HERE}/rtl/{name}.v; hierarchy -top {name}; proc; flatten; opt; wreduce; peepopt; opt_clean; {adders};"
+                    f" write_verilog -noattr -noexpr -nodec {netlist}"], check=True)
+    return with_scan(netlist, is_clocked)
+
+
+def with_scan(netlist, is_clocked):
+    """Puts the flip-flops of a mapped design in two scan chains, and gives the netlist and the scan table."""
     write_bits(netlist)
     if not is_clocked:
         return netlist, "-"
@@ -111,11 +127,7 @@ def mapped(folder):
     cells = library(folder)
     for name, is_clocked in DESIGNS.items():
         yield name, cells, *netlist_of(folder, name, is_clocked)
-    netlist = f"{folder}/mult8_fa.v"
-    subprocess.run(["yosys", "-q", "-p", f"read_verilog {HERE}/rtl/mult8.v; hierarchy -top mult8; proc; flatten; opt; wreduce; peepopt; opt_clean; {ADDERS};"
-                    f" write_verilog -noattr -noexpr -nodec {netlist}"], check=True)
-    write_bits(netlist)
-    yield "mult8_fa", cells, netlist, "-"
+    yield "mult8_fa", cells, *of_adders(folder, "mult8", False)
 
 
 def row_of_inverters(folder, count):
@@ -182,6 +194,11 @@ def main(words):
             for name, cells, netlist, table in mapped(folder):
                 for budget in budgets:
                     record(writer, name, budget, [program, "atpg", cells, netlist, table, *out, str(budget)])
+        if "wide" in sets and os.path.isdir(OSU):
+            for name, is_clocked in [("mult16", False), ("mac16", True)]:
+                netlist, table = of_adders(folder, name, is_clocked)
+                for budget in budgets:
+                    record(writer, f"{name}_fa", budget, [program, "atpg", library(folder), netlist, table, *out, str(budget)])
         if "aes" in sets and os.path.isdir(OSU):
             # (yosys would move flip-flops into the tables of the S-boxes without -nordff)
             mapped_netlist, table = netlist_of(folder, "aes", True, "-nordff")
