@@ -4,6 +4,7 @@ pub struct ArrayVec<T, const N: usize> { xs: [T; N], n: usize }
 impl<T: Default + Copy, const N: usize> ArrayVec<T, N> {
     #[inline] pub fn new() -> Self { ArrayVec { xs: [T::default(); N], n: 0 } }
     #[inline] pub fn push(&mut self, x: T) { self.xs[self.n] = x; self.n += 1; }
+    #[inline] pub fn is_full(&self) -> bool { self.n == N }
     #[inline] pub fn as_slice(&self) -> &[T] { &self.xs[..self.n] }
     #[inline] pub fn clear(&mut self) { self.n = 0; }
 }

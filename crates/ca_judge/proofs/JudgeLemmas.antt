@@ -21,9 +21,6 @@ use Rattle.ca_guide.specs.Guide.{Guided, HasRoomFor, IsSupport, ShowsPair}
 use Rattle.ca_guide.specs.Guide as guided
 use Rattle.ca_guide.specs.declared.guide.Step.{Step}
 use Rattle.ca_guide.specs.declared.guide.Step.TheVariants.{Branch, RuledOut}
-use Rattle.ca_guide.specs.declared.guide.Attempt.{Attempt}
-use Rattle.ca_guide.specs.declared.guide.Attempt.TheVariants.{Set, TakeBack, GiveUp}
-use Rattle.ca_net.specs.State.{value_at}
 use Rattle.ca_search.specs.declared.judge.Standing.{Standing}
 use Rattle.ca_search.specs.declared.judge.Standing.TheVariants.{Shown, Settled, Open}
 use Rattle.ca_search.specs.Judged.{with_pair, IsStanding, IsStep, IsOpenFor, IsShownFor, IsFlatFor}
@@ -35,7 +32,7 @@ use Rattle.ca_judge.specs.code.ChipJudge.{IsChipJudge, IsGuidedTo}
 use Rattle.ca_judge.specs.code.Attempt.{IsAimed}
 use Rattle.ca_judge.proofs.StandingLemmas.{SeesBoth, StandsSo, stands_so, shown_so, so_shown}
 use Rattle.ca_judge.proofs.StepLemmas.{IsSearchStep, search_step}
-use Rattle.ca_judge.proofs.SeenLemmas.{pair_again, bits_count, shows_pair, unset_value}
+use Rattle.ca_judge.proofs.SeenLemmas.{pair_again, bits_count, shows_pair}
 
 -- the judge is kept where the chip and the defect stay
 pub judge_kept : (old new : Simulator) (chip : Chip) (lists : NetLists) (rows_chip : Chip) (guided : Guided)

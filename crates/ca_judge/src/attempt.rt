@@ -1,6 +1,6 @@
 //! Attempts: ways to a pair that shows a defect, on which bits are taken back without a code.
 
-ghost use Rattle.std.specs.Prelude.{◌≡◌, ◌+◌, ◌*◌, ◌<◌, ◌≤◌, length, vec_capacity, IsTrue};
+ghost use Rattle.std.specs.Prelude.{◌≡◌, ◌<◌, ◌≤◌, length, vec_capacity, IsTrue};
 ghost use Rattle.ca_flat.specs.Pair.{IsShown};
 ghost use Rattle.ca_search.specs.FreeWay.{MaySet};
 ghost use Rattle.ca_sim.specs.Simulator.{KeepsSeen};
@@ -19,14 +19,14 @@ use ca_view::View;
 // The most steps of an attempt.
 const MOST_STEPS: u32 = 8192;
 
-/// What an attempt is for: a defect, its rows and its support, and how many bits may be set.
+/// What an attempt is for: a defect, its rows and its support, and how many bits a way may have.
 #[derive(Drop)]
 pub(crate) struct Aimed<'a> {
     pub(crate) view: &'a View<'a>,
     pub(crate) guide: &'a Guide,
     pub(crate) rows: &'a Rows,
     pub(crate) defect: ChipDefect,
-    pub(crate) budget: u32,
+    pub(crate) most: u32,
 }
 
 /// Looks for a pair that shows the defect. Whether it is in hand.
@@ -39,11 +39,11 @@ pub(crate) fn attempt<P: Choice>(
 ) -> bool
     requires aimed { IsAimed aimed.now.view.now.core aimed.now.view.now.lists aimed.now.guide.now
         aimed.now.defect }
-    requires way { IsOnWay aimed.now.view.now.core aimed.now.defect aimed.now.budget confined.old
+    requires way { IsOnWay aimed.now.view.now.core aimed.now.defect aimed.now.most confined.old
         numbers.old.items }
     requires sim { IsSimOf confined.old.chip confined.old.places sim.old }
-    requires room { 2 * aimed.now.budget + 1 ≤ vec_capacity numbers.old }
-    ensures way { IsOnWay aimed.now.view.now.core aimed.now.defect aimed.now.budget confined.new
+    requires room { aimed.now.most ≤ vec_capacity numbers.old }
+    ensures way { IsOnWay aimed.now.view.now.core aimed.now.defect aimed.now.most confined.new
         numbers.new.items }
     ensures shown { IsTrue result
         → IsShown aimed.now.view.now.core aimed.now.defect confined.new.pair }
@@ -72,12 +72,12 @@ fn step<P: Choice>(
 ) -> bool
     requires aimed { IsAimed aimed.now.view.now.core aimed.now.view.now.lists aimed.now.guide.now
         aimed.now.defect }
-    requires way { IsOnWay aimed.now.view.now.core aimed.now.defect aimed.now.budget confined.old
+    requires way { IsOnWay aimed.now.view.now.core aimed.now.defect aimed.now.most confined.old
         numbers.old.items }
     requires unshown { IsShown aimed.now.view.now.core aimed.now.defect confined.old.pair → ⊥ }
     requires sim { IsSimOf confined.old.chip confined.old.places sim.old }
-    requires room { 2 * aimed.now.budget + 1 ≤ vec_capacity numbers.old }
-    ensures way { IsOnWay aimed.now.view.now.core aimed.now.defect aimed.now.budget confined.new
+    requires room { aimed.now.most ≤ vec_capacity numbers.old }
+    ensures way { IsOnWay aimed.now.view.now.core aimed.now.defect aimed.now.most confined.new
         numbers.new.items }
     ensures places { confined.new.places ≡ confined.old.places }
     ensures kept { KeepsSeen sim.old sim.new }
@@ -92,7 +92,7 @@ fn step<P: Choice>(
         .attempt(aimed.view, &waves, aimed.rows, aimed.defect, choice)
     {
         Attempt::Set { bit, value } => {
-            if numbers.len() >= aimed.budget as usize {
+            if numbers.len() >= aimed.most as usize {
                 return false;
             }
             set(aimed, confined, sim, numbers, bit, value);
@@ -103,8 +103,8 @@ fn step<P: Choice>(
     }
 }
 
-// Sets the bit.
-fn set(
+/// Sets the bit.
+pub(crate) fn set(
     aimed: &Aimed<'_>,
     confined: &mut Confined,
     sim: &mut Sim,
@@ -114,14 +114,14 @@ fn set(
 )
     requires aimed { IsAimed aimed.now.view.now.core aimed.now.view.now.lists aimed.now.guide.now
         aimed.now.defect }
-    requires way { IsOnWay aimed.now.view.now.core aimed.now.defect aimed.now.budget confined.old
+    requires way { IsOnWay aimed.now.view.now.core aimed.now.defect aimed.now.most confined.old
         numbers.old.items }
     requires unshown { IsShown aimed.now.view.now.core aimed.now.defect confined.old.pair → ⊥ }
     requires may { MaySet aimed.now.view.now.core aimed.now.defect confined.old.pair bit }
-    requires unspent { length numbers.old.items < aimed.now.budget }
+    requires unspent { length numbers.old.items < aimed.now.most }
     requires sim { IsSimOf confined.old.chip confined.old.places sim.old }
-    requires room { 2 * aimed.now.budget + 1 ≤ vec_capacity numbers.old }
-    ensures way { IsOnWay aimed.now.view.now.core aimed.now.defect aimed.now.budget confined.new
+    requires room { aimed.now.most ≤ vec_capacity numbers.old }
+    ensures way { IsOnWay aimed.now.view.now.core aimed.now.defect aimed.now.most confined.new
         numbers.new.items }
     ensures places { confined.new.places ≡ confined.old.places }
     ensures kept { KeepsSeen sim.old sim.new }
@@ -139,16 +139,16 @@ fn take_back(
     sim: &mut Sim,
     numbers: &mut Vec<u16>,
 ) -> bool
-    requires way { IsOnWay aimed.now.view.now.core aimed.now.defect aimed.now.budget confined.old
+    requires way { IsOnWay aimed.now.view.now.core aimed.now.defect aimed.now.most confined.old
         numbers.old.items }
     requires sim { IsSimOf confined.old.chip confined.old.places sim.old }
-    ensures way { IsOnWay aimed.now.view.now.core aimed.now.defect aimed.now.budget confined.new
+    ensures way { IsOnWay aimed.now.view.now.core aimed.now.defect aimed.now.most confined.new
         numbers.new.items }
     ensures places { confined.new.places ≡ confined.old.places }
     ensures kept { KeepsSeen sim.old sim.new }
     ensures room { vec_capacity numbers.old ≤ vec_capacity numbers.new }
 {
-    let _ = &aimed.budget;
+    let _ = &aimed.most;
     confined.whole();
     match numbers.pop() {
         Some(number) => match unpacked(number) {

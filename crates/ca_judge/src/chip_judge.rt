@@ -5,9 +5,10 @@ ghost use Rattle.ca_flat.specs.Chip.{IsChipDefect};
 ghost use Rattle.ca_guide.specs.Guide.{HasRoomFor};
 ghost use Rattle.ca_judge.specs.code.ChipJudge.{IsGuidedTo};
 
-use crate::attempt::{Aimed, attempt};
+use crate::attempt::Aimed;
 use crate::guide_waves::GuideWaves;
 use crate::outputs::observed_nets;
+use crate::shorten::short_attempt;
 use crate::standing::standing;
 use ca_base::NoMemory;
 use ca_confined::Confined;
@@ -240,9 +241,15 @@ impl<R: ExposingRows, P: Choice + Drop> Judge for ChipJudge<'_, R, P> {
                     guide: &self.guide,
                     rows: self.rows.rows(defect),
                     defect,
-                    budget,
+                    most: budget,
                 };
-                let found = attempt(&aimed, confined, &mut self.sim, &mut self.choice, numbers);
+                let found = short_attempt(
+                    &aimed,
+                    confined,
+                    &mut self.sim,
+                    &mut self.choice,
+                    numbers,
+                );
                 if found {
                     self.sim.exact();
                     confined.whole();

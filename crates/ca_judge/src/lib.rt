@@ -6,6 +6,7 @@ mod attempt_waves;
 mod chip_judge;
 mod guide_waves;
 mod outputs;
+mod shorten;
 mod standing;
 
 pub use ca_flat::ExposingRows;

@@ -25,13 +25,18 @@ pub record IsAimed (core : Chip) (lists : NetLists) (guided : Guided) (defect : 
   pub good_is : IsWellFormed (flat core None)
   pub faulty_is : IsWellFormed (flat core (Some defect))
 
--- the tokens of the numbers are a way to the pair in hand, with no more bits than the budget has branches
-pub record IsOnWay (core : Chip) (defect : ChipDefect) (budget : ℕ) (seen : Seen) (numbers : List ℕ) : Type 0
+-- the defect of the chip is aimed at
+pub record IsAimedAt (core : Chip) (defect : ChipDefect) (seen : Seen) : Type 0 where
+  pub chip_is : seen.chip ≡ core
+  pub aim_is : seen.aim ≡ Some defect
+
+-- the tokens of the numbers are a way to the pair in hand, with no more bits than this
+pub record IsOnWay (core : Chip) (defect : ChipDefect) (most : ℕ) (seen : Seen) (numbers : List ℕ) : Type 0
   where
     pub chip_is : seen.chip ≡ core
     pub aim_is : seen.aim ≡ Some defect
     pub way : IsWayHere (judged_of seen) (tokens_of numbers)
-    pub within : length numbers ≤ budget
+    pub within : length numbers ≤ most
 
 -- the waves of attempts are of the chip of the simulator, whose aim is placed
 pub record IsTried (seen tried : Seen) : Type 0 where

@@ -5,7 +5,7 @@ use Rattle.ca_judge.proofs.attempt.attempt.Given as goal
 
 abbrev pub invariant-loop : goal.invariant-loop
 invariant-loop g l = record {
-  way : IsOnWay l.aimed.view.now.core l.aimed.defect l.aimed.budget l.confined l.numbers.items;
+  way : IsOnWay l.aimed.view.now.core l.aimed.defect l.aimed.most l.confined l.numbers.items;
   places : l.confined.places ≡ l.fn.confined.places;
   kept : KeepsSeen l.fn.sim l.sim;
   room : vec_capacity l.fn.numbers ≤ vec_capacity l.numbers;

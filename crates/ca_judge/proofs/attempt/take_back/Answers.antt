@@ -1,4 +1,4 @@
-use Rattle.std.proofs.Common.{◌<◌, ◌∙◌, length, sym, subst}
+use Rattle.std.proofs.Common.{◌<◌, ◌∙◌, sym, subst}
 use Rattle.ca_search.proofs.WayLemmas.{popped_bit, way_shorter, no_leaf_popped, fewer_within}
 use Rattle.ca_judge.specs.ChipJudge.{judged_of}
 use Rattle.ca_judge.proofs.AttemptLemmas.{tried_kept}
