@@ -12,7 +12,7 @@ use ca_credit::{ByLasts, Simulator};
 use ca_flat::ChipDefect;
 use ca_flatten::{flat_is_well_formed, judge_size};
 use ca_generate::{Bench, SearchEnd, outcome_is_search};
-use ca_guide::Choice;
+use ca_judge::Attempts;
 use ca_net::Trit;
 use ca_pair::Pair;
 use ca_places::PlaceSet;
@@ -28,7 +28,7 @@ use std::marker::Model;
 /// taken by `reserve`, and for a code that is kept. It is for rows, a choice and a finder of any type, so
 /// that what drops one has few parts to the prover.
 #[derive(Drop)]
-pub struct ChipBench<'a, R: ExposableDefects, P: Choice + Drop, F: FlipFinder + Drop> {
+pub struct ChipBench<'a, R: ExposableDefects, P: Attempts + Drop, F: FlipFinder + Drop> {
     view: &'a View<'a>,
     judge: FlipBench<'a, R, P, F>,
     rows: &'a R,
@@ -37,7 +37,7 @@ pub struct ChipBench<'a, R: ExposableDefects, P: Choice + Drop, F: FlipFinder + 
     aim: Option<ChipDefect>,
 }
 
-impl<'a, R: ExposableDefects, P: Choice + Drop, F: FlipFinder + Drop> Model
+impl<'a, R: ExposableDefects, P: Attempts + Drop, F: FlipFinder + Drop> Model
     for ChipBench<'a, R, P, F> {
     ghost use Rattle.ca_engine.specs.ChipBench.{Benched};
     ghost use Rattle.ca_engine.specs.code.ChipBench.{IsChipBench};
@@ -60,8 +60,9 @@ impl<'a, R: ExposableDefects, P: Choice + Drop, F: FlipFinder + Drop> Model
         bench.view.now.core.outputs bench.aim };
 }
 
-impl<'a, R: ExposableDefects, P: Choice + Drop, F: FlipFinder + Drop> ChipBench<'a, R, P, F> {
+impl<'a, R: ExposableDefects, P: Attempts + Drop, F: FlipFinder + Drop> ChipBench<'a, R, P, F> {
     ghost use Rattle.std.specs.List.{All};
+    ghost use Rattle.ca_judge.specs.Attempt.{IsTriedOn};
     ghost use Rattle.ca_sweep.specs.Seen.{IsForChip};
     ghost use Rattle.ca_view.specs.Linked.{IsPlacedDefect, place_in};
     ghost use Rattle.ca_engine.specs.ChipBench.{IsUnused, task_in};
@@ -79,6 +80,7 @@ impl<'a, R: ExposableDefects, P: Choice + Drop, F: FlipFinder + Drop> ChipBench<
         budget: u32,
     ) -> Result<Self, NoMemory>
         requires rows { R.chip rows.now ≡ view.now.core }
+        requires choice { IsTriedOn view.now.core view.now.ranks (P.tried choice) }
         requires finder { IsForChip view.now.core view.now.ranks (F.loaded finder) }
         ensures task { IfOk result (λ bench. task_in bench ≡ task_of view.now.chip budget) }
         ensures few { IfOk result (λ bench. length bench.defects < 2 ^ 32) }
@@ -102,6 +104,7 @@ impl<'a, R: ExposableDefects, P: Choice + Drop, F: FlipFinder + Drop> ChipBench<
         budget: u32,
     ) -> Result<Self, NoMemory>
         requires rows { R.chip rows.now ≡ view.now.core }
+        requires choice { IsTriedOn view.now.core view.now.ranks (P.tried choice) }
         requires finder { IsForChip view.now.core view.now.ranks (F.loaded finder) }
         requires placed { All (IsPlacedDefect view.now.core (place_in view.now.ranks)) defects }
 
@@ -147,7 +150,7 @@ impl<'a, R: ExposableDefects, P: Choice + Drop, F: FlipFinder + Drop> ChipBench<
     }
 }
 
-impl<R: ExposableDefects, P: Choice + Drop, F: FlipFinder + Drop> Simulator
+impl<R: ExposableDefects, P: Attempts + Drop, F: FlipFinder + Drop> Simulator
     for ChipBench<'_, R, P, F> {
     ghost use Rattle.ca_engine.specs.ChipBench.{task_in};
 
@@ -239,7 +242,8 @@ impl<R: ExposableDefects, P: Choice + Drop, F: FlipFinder + Drop> Simulator
     }
 }
 
-impl<R: ExposableDefects, P: Choice + Drop, F: FlipFinder + Drop> Bench for ChipBench<'_, R, P, F> {
+impl<R: ExposableDefects, P: Attempts + Drop, F: FlipFinder + Drop> Bench
+    for ChipBench<'_, R, P, F> {
     fn is_exposable(&self, place: usize) -> bool {
         self.rows.is_exposable(self.defects.get(place))
     }

@@ -4,8 +4,8 @@ ghost use Rattle.std.specs.Prelude.{◌≡◌, ◌<◌, ◌^◌, length, IfOk};
 
 use ca_base::NoMemory;
 use ca_flat::ChipDefect;
-use ca_guide::{Choice, Step};
-use ca_judge::ExposingRows;
+use ca_guide::Step;
+use ca_judge::{Attempts, ExposingRows};
 use ca_net::Wave;
 use ca_places::PlaceSet;
 use ca_search::{Judge, Standing};
@@ -18,13 +18,14 @@ use std::marker::Model;
 /// A judge, and a finder, which is loaded with the good waves for the bits when it is asked. It is for a
 /// finder of any type: so it has few parts to the prover, and test generation and grades share it.
 #[derive(Drop)]
-pub(crate) struct FlipBench<'a, R: ExposingRows, P: Choice + Drop, F: FlipFinder + Drop> {
+pub(crate) struct FlipBench<'a, R: ExposingRows, P: Attempts + Drop, F: FlipFinder + Drop> {
     judge: ca_judge::ChipJudge<'a, R, P>,
     finder: F,
     is_loaded: bool,
 }
 
-impl<'a, R: ExposingRows, P: Choice + Drop, F: FlipFinder + Drop> Model for FlipBench<'a, R, P, F> {
+impl<'a, R: ExposingRows, P: Attempts + Drop, F: FlipFinder + Drop> Model
+    for FlipBench<'a, R, P, F> {
     ghost use Rattle.ca_sim.specs.Simulator.{Simulator};
     ghost use Rattle.ca_engine.specs.code.FlipBench.{IsFlipBench};
 
@@ -35,7 +36,7 @@ impl<'a, R: ExposingRows, P: Choice + Drop, F: FlipFinder + Drop> Model for Flip
     ghost invariant = { λ bench. IsFlipBench bench.judge (F.loaded bench.finder) bench.is_loaded };
 }
 
-impl<'a, R: ExposingRows, P: Choice + Drop, F: FlipFinder + Drop> FlipBench<'a, R, P, F> {
+impl<'a, R: ExposingRows, P: Attempts + Drop, F: FlipFinder + Drop> FlipBench<'a, R, P, F> {
     ghost use Rattle.std.specs.Prelude.{ℕ, IsFalse, IsTrue, None, Some};
     ghost use Rattle.std.specs.List.{All};
     ghost use Rattle.ca_net.specs.Circuit.{IsWellFormed};
@@ -49,6 +50,7 @@ impl<'a, R: ExposingRows, P: Choice + Drop, F: FlipFinder + Drop> FlipBench<'a, 
     ghost use Rattle.ca_sim.specs.Simulator.{IsFresh, KeepsAim, KeepsPair, KeepsSeen, counted_up};
     ghost use Rattle.ca_judge.specs.ChipJudge.{CanBeJudged};
     ghost use Rattle.ca_places.specs.PlaceSet.{Has};
+    ghost use Rattle.ca_judge.specs.Attempt.{IsTriedOn};
     ghost use Rattle.ca_sweep.specs.Found.{IsFound, IsNextFound};
     ghost use Rattle.ca_sweep.specs.Seen.{IsForChip};
 
@@ -60,6 +62,7 @@ impl<'a, R: ExposingRows, P: Choice + Drop, F: FlipFinder + Drop> FlipBench<'a, 
         choice: P,
         finder: F,
     ) -> Result<Self, NoMemory>
+        requires choice { IsTriedOn view.now.core view.now.ranks (P.tried choice) }
         requires finder { IsForChip view.now.core view.now.ranks (F.loaded finder) }
         requires judged { CanBeJudged view.now.core }
         requires rows { R.chip rows.now ≡ view.now.core }
@@ -186,7 +189,8 @@ impl<'a, R: ExposingRows, P: Choice + Drop, F: FlipFinder + Drop> FlipBench<'a, 
     }
 }
 
-impl<R: ExposingRows, P: Choice + Drop, F: FlipFinder + Drop> NetWaves for FlipBench<'_, R, P, F> {
+impl<R: ExposingRows, P: Attempts + Drop, F: FlipFinder + Drop> NetWaves
+    for FlipBench<'_, R, P, F> {
     ghost seen = { λ bench. bench.seen };
 
     fn good(&self, net: usize) -> Wave {
@@ -206,7 +210,7 @@ impl<R: ExposingRows, P: Choice + Drop, F: FlipFinder + Drop> NetWaves for FlipB
     }
 }
 
-impl<R: ExposingRows, P: Choice + Drop, F: FlipFinder + Drop> Judge for FlipBench<'_, R, P, F> {
+impl<R: ExposingRows, P: Attempts + Drop, F: FlipFinder + Drop> Judge for FlipBench<'_, R, P, F> {
     ghost use Rattle.ca_judge.specs.ChipJudge.{judged_of};
 
     ghost judged = { λ bench. judged_of bench.seen };
@@ -250,7 +254,7 @@ ghost use Rattle.ca_flat.specs.Flat.{flat};
 ghost use Rattle.ca_engine.specs.code.FlipBench.{IsFlipBench};
 
 // Loads the finder with the good waves, if it isn't.
-fn load_finder<R: ExposingRows, P: Choice + Drop, F: FlipFinder>(
+fn load_finder<R: ExposingRows, P: Attempts + Drop, F: FlipFinder>(
     judge: &ca_judge::ChipJudge<'_, R, P>,
     finder: &mut F,
     is_loaded: bool,

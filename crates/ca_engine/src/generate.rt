@@ -5,6 +5,7 @@ ghost use Rattle.ca_credit.specs.Good.{IsGood};
 ghost use Rattle.ca_generate.specs.GenerateFault.{IsCause};
 ghost use Rattle.ca_generate.specs.Known.{AreUntestable};
 ghost use Rattle.ca_engine.specs.ChipTask.{task_of};
+ghost use Rattle.ca_judge.specs.Attempt.{IsTriedOn};
 ghost use Rattle.ca_sweep.specs.Seen.{IsForChip};
 
 use crate::chip_bench::ChipBench;
@@ -12,7 +13,7 @@ use crate::finders::reserve_laned;
 use crate::untestable::untestable_marks;
 use ca_choice::CheapestWay;
 use ca_generate::{GenerateFault, Generated, Watch, generate_knowing};
-use ca_guide::Choice;
+use ca_judge::{Attempts, ScopedChoice};
 use ca_linked::Chip;
 use ca_rows::{ChipRows, ExposableDefects};
 use ca_sweep::FlipFinder;
@@ -95,12 +96,13 @@ fn generate_marked<R: ExposableDefects, T: Watch>(
         (λ made. IsGood (task_of view.now.chip budget) made.pairs made.aims made.verdicts) }
     ensures cause { IfErr result (IsCause (task_of view.now.chip budget)) }
 {
-    let choice = CheapestWay::reserve(alloc, view)?;
+    let cheapest = CheapestWay::reserve(alloc, view)?;
+    let choice = ScopedChoice::reserve(alloc, view, cheapest)?;
     generate_found(alloc, view, rows, choice, untestable, budget, watch)
 }
 
 // The same with a finder.
-fn generate_found<R: ExposableDefects, P: Choice + Drop, T: Watch>(
+fn generate_found<R: ExposableDefects, P: Attempts + Drop, T: Watch>(
     alloc: Global,
     view: &View<'_>,
     rows: &R,
@@ -110,6 +112,7 @@ fn generate_found<R: ExposableDefects, P: Choice + Drop, T: Watch>(
     watch: &mut T,
 ) -> Result<Generated, GenerateFault>
     requires rows { R.chip rows.now ≡ view.now.core }
+    requires choice { IsTriedOn view.now.core view.now.ranks (P.tried choice) }
     requires untestable { AreUntestable (task_of view.now.chip budget) untestable.now }
 
     ensures good { IfOk result
@@ -122,7 +125,7 @@ fn generate_found<R: ExposableDefects, P: Choice + Drop, T: Watch>(
 
 // The same by rows, a choice and a finder of any type: so the bench that is dropped here has few parts to the
 // prover.
-fn generate_by<R: ExposableDefects, P: Choice + Drop, F: FlipFinder + Drop, T: Watch>(
+fn generate_by<R: ExposableDefects, P: Attempts + Drop, F: FlipFinder + Drop, T: Watch>(
     alloc: Global,
     view: &View<'_>,
     rows: &R,
@@ -133,6 +136,7 @@ fn generate_by<R: ExposableDefects, P: Choice + Drop, F: FlipFinder + Drop, T: W
     watch: &mut T,
 ) -> Result<Generated, GenerateFault>
     requires rows { R.chip rows.now ≡ view.now.core }
+    requires choice { IsTriedOn view.now.core view.now.ranks (P.tried choice) }
     requires finder { IsForChip view.now.core view.now.ranks (F.loaded finder) }
     requires untestable { AreUntestable (task_of view.now.chip budget) untestable.now }
 

@@ -8,8 +8,7 @@ ghost use Rattle.ca_engine.specs.code.SearchEnd.{IsKept};
 use crate::flip_bench::FlipBench;
 use ca_base::NoMemory;
 use ca_generate::SearchEnd;
-use ca_guide::Choice;
-use ca_judge::ExposingRows;
+use ca_judge::{Attempts, ExposingRows};
 use ca_pair::Pair;
 use ca_search::{Judge, Outcome, Search};
 use ca_sim::NetWaves;
@@ -17,7 +16,7 @@ use ca_sweep::FlipFinder;
 use std::alloc::Global;
 
 // A bit of the pair that is kept: 0 where it is unset.
-fn is_one<R: ExposingRows, P: Choice + Drop, F: FlipFinder + Drop>(
+fn is_one<R: ExposingRows, P: Attempts + Drop, F: FlipFinder + Drop>(
     judge: &FlipBench<'_, R, P, F>,
     bit: usize,
 ) -> bool
@@ -31,7 +30,7 @@ fn is_one<R: ExposingRows, P: Choice + Drop, F: FlipFinder + Drop>(
 }
 
 // The pair that the bits give, 0 where one is unset.
-fn pair_of<R: ExposingRows, P: Choice + Drop, F: FlipFinder + Drop>(
+fn pair_of<R: ExposingRows, P: Attempts + Drop, F: FlipFinder + Drop>(
     alloc: Global,
     judge: &FlipBench<'_, R, P, F>,
 ) -> Result<Pair, NoMemory>
@@ -46,7 +45,7 @@ fn pair_of<R: ExposingRows, P: Choice + Drop, F: FlipFinder + Drop>(
 }
 
 /// The end of a search with such an outcome: with the pair that it has found, or the code that it spent.
-pub(crate) fn end_of<R: ExposingRows, P: Choice + Drop, F: FlipFinder + Drop>(
+pub(crate) fn end_of<R: ExposingRows, P: Attempts + Drop, F: FlipFinder + Drop>(
     alloc: Global,
     judge: &FlipBench<'_, R, P, F>,
     search: &Search,

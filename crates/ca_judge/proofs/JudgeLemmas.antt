@@ -29,7 +29,7 @@ use Rattle.ca_judge.specs.code.Outputs.{AreObservedBelow}
 use Rattle.ca_judge.specs.GuideSeen.{guide_seen}
 use Rattle.ca_judge.specs.ChipJudge.{CanBeJudged, judged_of}
 use Rattle.ca_judge.specs.code.ChipJudge.{IsChipJudge, IsGuidedTo}
-use Rattle.ca_judge.specs.code.Attempt.{IsAimed}
+use Rattle.ca_judge.specs.Attempt.{IsAimed}
 use Rattle.ca_judge.proofs.StandingLemmas.{SeesBoth, StandsSo, stands_so, shown_so, so_shown}
 use Rattle.ca_judge.proofs.StepLemmas.{IsSearchStep, search_step}
 use Rattle.ca_judge.proofs.SeenLemmas.{pair_again, bits_count, shows_pair}

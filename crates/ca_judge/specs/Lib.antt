@@ -1,3 +1,4 @@
 pub mod GuideSeen
 pub mod ChipJudge
+pub mod Attempt
 pub mod code

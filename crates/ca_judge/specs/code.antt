@@ -2,4 +2,3 @@
 pub mod Ends
 pub mod Outputs
 pub mod ChipJudge
-pub mod Attempt

@@ -5,7 +5,7 @@ ghost use Rattle.ca_flat.specs.Pair.{IsShown};
 ghost use Rattle.ca_search.specs.FreeWay.{MaySet};
 ghost use Rattle.ca_sim.specs.Simulator.{KeepsSeen};
 ghost use Rattle.ca_confined.specs.Confined.{IsSimOf};
-ghost use Rattle.ca_judge.specs.code.Attempt.{IsAimed, IsOnWay};
+ghost use Rattle.ca_judge.specs.Attempt.{IsAimed, IsOnWay};
 
 use crate::attempt_waves::AttemptWaves;
 use ca_code::{packed, unpacked};
@@ -21,12 +21,12 @@ const MOST_STEPS: u32 = 8192;
 
 /// What an attempt is for: a defect, its rows and its support, and how many bits a way may have.
 #[derive(Drop)]
-pub(crate) struct Aimed<'a> {
-    pub(crate) view: &'a View<'a>,
-    pub(crate) guide: &'a Guide,
-    pub(crate) rows: &'a Rows,
-    pub(crate) defect: ChipDefect,
-    pub(crate) most: u32,
+pub struct Aimed<'a> {
+    pub view: &'a View<'a>,
+    pub guide: &'a Guide,
+    pub rows: &'a Rows,
+    pub defect: ChipDefect,
+    pub most: u32,
 }
 
 /// Looks for a pair that shows the defect. Whether it is in hand.

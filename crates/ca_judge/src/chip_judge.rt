@@ -6,14 +6,13 @@ ghost use Rattle.ca_guide.specs.Guide.{HasRoomFor};
 ghost use Rattle.ca_judge.specs.code.ChipJudge.{IsGuidedTo};
 
 use crate::attempt::Aimed;
+use crate::attempts::Attempts;
 use crate::guide_waves::GuideWaves;
 use crate::outputs::observed_nets;
-use crate::shorten::short_attempt;
 use crate::standing::standing;
 use ca_base::NoMemory;
-use ca_confined::Confined;
 use ca_flat::{ChipDefect, ExposingRows};
-use ca_guide::{Choice, Guide, Step, is_some_row_allowed};
+use ca_guide::{Guide, Step, is_some_row_allowed};
 use ca_net::Wave;
 use ca_search::{Judge, Standing};
 use ca_sim::{Bits, NetWaves, Sim};
@@ -35,10 +34,8 @@ fn guide_to(guide: &mut Guide, view: &View<'_>, defect: Option<ChipDefect>)
 
 /// A simulator of a chip, and the guide of the defect that is aimed at. All memory is taken by `reserve`.
 #[derive(Drop)]
-pub struct ChipJudge<'a, R: ExposingRows, P: Choice + Drop> {
+pub struct ChipJudge<'a, R: ExposingRows, P: Attempts + Drop> {
     sim: Sim<'a>,
-    // the waves of an attempt, in a box: so a judge has fewer parts to the prover
-    confined: Box<Confined<'a>>,
     view: &'a View<'a>,
     rows: &'a R,
     guide: Guide,
@@ -48,11 +45,10 @@ pub struct ChipJudge<'a, R: ExposingRows, P: Choice + Drop> {
     defect: Option<ChipDefect>,
 }
 
-impl<'a, R: ExposingRows, P: Choice + Drop> Model for ChipJudge<'a, R, P> {
+impl<'a, R: ExposingRows, P: Attempts + Drop> Model for ChipJudge<'a, R, P> {
     ghost use Rattle.ca_sim.specs.Simulator.{Simulator};
     ghost use Rattle.ca_judge.specs.code.ChipJudge.{IsChipJudge};
-    ghost use Rattle.std.specs.Prelude.{box_value};
-    ghost use Rattle.ca_judge.specs.code.Attempt.{IsTried};
+    ghost use Rattle.ca_judge.specs.Attempt.{IsTried};
 
     ghost Value = { Simulator };
 
@@ -60,10 +56,10 @@ impl<'a, R: ExposingRows, P: Choice + Drop> Model for ChipJudge<'a, R, P> {
 
     ghost invariant = { λ judge. IsChipJudge judge.sim.seen.chip judge.sim.seen.aim judge.view.now.core
         judge.view.now.lists (R.chip judge.rows.now) judge.guide judge.outputs.items judge.defect
-        × IsTried judge.sim.seen (box_value judge.confined) };
+        × IsTried judge.sim.seen (P.tried judge.choice) };
 }
 
-impl<'a, R: ExposingRows, P: Choice + Drop> ChipJudge<'a, R, P> {
+impl<'a, R: ExposingRows, P: Attempts + Drop> ChipJudge<'a, R, P> {
     ghost use Rattle.std.specs.Prelude.{IsFalse, IsTrue, None};
     ghost use Rattle.ca_flat.specs.Chip.{IsDefectIn};
     ghost use Rattle.ca_flat.specs.RuleOut.{RowsRuleOut};
@@ -74,6 +70,7 @@ impl<'a, R: ExposingRows, P: Choice + Drop> ChipJudge<'a, R, P> {
     ghost use Rattle.ca_sim.specs.Seen.{IsExact, aimed_anew};
     ghost use Rattle.ca_sim.specs.Simulator.{IsFresh, KeepsAim, KeepsPair, KeepsSeen, counted_up};
     ghost use Rattle.ca_judge.specs.ChipJudge.{CanBeJudged};
+    ghost use Rattle.ca_judge.specs.Attempt.{IsTriedOn};
 
     /// Takes all memory. No bit is set, and no defect is aimed at.
     #[tactic(auto, using(crate::proofs::JudgeLemmas::judge_begins, crate::proofs::JudgeLemmas::few_onward))]
@@ -85,6 +82,7 @@ impl<'a, R: ExposingRows, P: Choice + Drop> ChipJudge<'a, R, P> {
     ) -> Result<Self, NoMemory>
         requires judged { CanBeJudged view.now.core }
         requires rows { R.chip rows.now ≡ view.now.core }
+        requires choice { IsTriedOn view.now.core view.now.ranks (P.tried choice) }
         ensures { IfOk result (IsFresh view.now.core view.now.ranks) }
     {
         view.linked();
@@ -92,10 +90,8 @@ impl<'a, R: ExposingRows, P: Choice + Drop> ChipJudge<'a, R, P> {
         let outputs = observed_nets(alloc, view)?;
         let guide = Guide::reserve(alloc, view)?;
         let sim = Sim::reserve(alloc, view)?;
-        let confined = Box::new(alloc, Confined::reserve(alloc, view, &sim)?)?;
         Ok(ChipJudge {
             sim,
-            confined,
             view,
             rows,
             guide,
@@ -166,7 +162,7 @@ impl<'a, R: ExposingRows, P: Choice + Drop> ChipJudge<'a, R, P> {
     }
 }
 
-impl<R: ExposingRows, P: Choice + Drop> NetWaves for ChipJudge<'_, R, P> {
+impl<R: ExposingRows, P: Attempts + Drop> NetWaves for ChipJudge<'_, R, P> {
     ghost seen = { λ judge. judge.seen };
 
     fn good(&self, net: usize) -> Wave {
@@ -186,7 +182,7 @@ impl<R: ExposingRows, P: Choice + Drop> NetWaves for ChipJudge<'_, R, P> {
     }
 }
 
-impl<R: ExposingRows, P: Choice + Drop> Judge for ChipJudge<'_, R, P> {
+impl<R: ExposingRows, P: Attempts + Drop> Judge for ChipJudge<'_, R, P> {
     ghost use Rattle.ca_judge.specs.ChipJudge.{judged_of};
 
     ghost judged = { λ judge. judged_of judge.seen };
@@ -218,12 +214,12 @@ impl<R: ExposingRows, P: Choice + Drop> Judge for ChipJudge<'_, R, P> {
         self.sim.exact();
         let waves = GuideWaves { waves: &self.sim };
         match self.defect {
-            Some(defect) => self.guide.next(
+            Some(defect) => self.choice.next(
+                &mut self.guide,
                 self.view,
                 &waves,
                 self.rows.rows(defect),
                 defect,
-                &mut self.choice,
             ),
             None => Step::RuledOut,
         }
@@ -233,9 +229,6 @@ impl<R: ExposingRows, P: Choice + Drop> Judge for ChipJudge<'_, R, P> {
         self.view.linked();
         match self.defect {
             Some(defect) => {
-                self.choice.begin();
-                let confined = &mut *self.confined;
-                confined.begin(Some(defect), &mut self.sim);
                 let aimed = Aimed {
                     view: self.view,
                     guide: &self.guide,
@@ -243,21 +236,12 @@ impl<R: ExposingRows, P: Choice + Drop> Judge for ChipJudge<'_, R, P> {
                     defect,
                     most: budget,
                 };
-                let found = short_attempt(
-                    &aimed,
-                    confined,
-                    &mut self.sim,
-                    &mut self.choice,
-                    numbers,
-                );
-                if found {
-                    self.sim.exact();
-                    confined.whole();
-                    self.sim.load_sparse(confined.pair());
-                }
-                found
+                self.choice.try_ways(&aimed, &mut self.sim, numbers)
             }
-            None => false,
+            None => {
+                numbers.clear();
+                false
+            }
         }
     }
 }

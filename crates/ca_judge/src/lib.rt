@@ -3,11 +3,14 @@
 
 mod attempt;
 mod attempt_waves;
+mod attempts;
 mod chip_judge;
 mod guide_waves;
 mod outputs;
 mod shorten;
 mod standing;
 
+pub use attempt::Aimed;
+pub use attempts::{Attempts, ScopedChoice};
 pub use ca_flat::ExposingRows;
 pub use chip_judge::ChipJudge;

@@ -5,7 +5,7 @@ ghost use Rattle.ca_flat.specs.Pair.{IsShown};
 ghost use Rattle.ca_view.specs.Linked.{IsAim, place_in};
 ghost use Rattle.ca_sim.specs.Simulator.{KeepsSeen};
 ghost use Rattle.ca_confined.specs.Confined.{IsSimOf, KeepsAim};
-ghost use Rattle.ca_judge.specs.code.Attempt.{IsAimed, IsAimedAt, IsOnWay};
+ghost use Rattle.ca_judge.specs.Attempt.{IsAimed, IsAimedAt, IsOnWay};
 
 use crate::attempt::{Aimed, attempt, set};
 use arrayvec::ArrayVec;

@@ -1,6 +1,6 @@
 use Rattle.std.proofs.Common.{◌≡◌, ◌≤◌, vec_capacity}
 use Rattle.ca_sim.specs.Simulator.{KeepsSeen}
-use Rattle.ca_judge.specs.code.Attempt.{IsOnWay}
+use Rattle.ca_judge.specs.Attempt.{IsOnWay}
 use Rattle.ca_judge.proofs.shorten.follow.Given as goal
 
 abbrev pub invariant-loop-number : goal.invariant-loop-number

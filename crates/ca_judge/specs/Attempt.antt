@@ -43,3 +43,8 @@ pub record IsTried (seen tried : Seen) : Type 0 where
   pub chip_is : tried.chip ≡ seen.chip
   pub places_are : tried.places ≡ seen.places
   pub aim_is : IsAim seen.chip (place_in seen.places) seen.aim
+
+-- they are of this chip, with these places
+pub record IsTriedOn (core : Chip) (places : List ℕ) (tried : Seen) : Type 0 where
+  pub chip_is : tried.chip ≡ core
+  pub places_are : tried.places ≡ places
