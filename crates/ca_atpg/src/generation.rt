@@ -15,10 +15,9 @@ ghost use Rattle.ca_atpg.specs.Atpg.{IsStil, report_of};
 use crate::texts::{report_of, stil_of};
 use ca_base::NoMemory;
 use ca_credit::Verdicts;
-use ca_engine::{ChipBench, generate_over, reserve_finder};
+use ca_engine::{ChipBench, NoAttempts, generate_over, reserve_finder};
 use ca_expected::{Expected, expected};
 use ca_generate::{Aims, GenerateFault, Generated, Watch};
-use ca_guide::LowestUnset;
 use ca_lex::Text;
 use ca_linked::Chip;
 use ca_pair::Pairs;
@@ -62,7 +61,7 @@ fn values_by<F: FlipFinder + Drop>(
     ensures { IfOk result (AreExpected (core_of view.now.chip) pairs.now) }
 {
     view.viewed();
-    let mut bench = ChipBench::reserve(alloc, view, rows, LowestUnset, finder, 0)?;
+    let mut bench = ChipBench::reserve(alloc, view, rows, NoAttempts::new(view), finder, 0)?;
     let values = expected(alloc, &mut bench, pairs.as_slice());
     drop(bench);
     values

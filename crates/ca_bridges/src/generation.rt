@@ -8,19 +8,20 @@ ghost use Rattle.ca_view.specs.View.{IsViewOf};
 ghost use Rattle.ca_credit.specs.Good.{IsGood};
 ghost use Rattle.ca_credit.specs.declared.limit.TheConstants.{MOST_PAIRS};
 ghost use Rattle.ca_benches.specs.Benches.{task_of, IsPart, IsStationed};
+ghost use Rattle.ca_judge.specs.Attempt.{IsTriedOn};
 ghost use Rattle.ca_sweep.specs.Seen.{IsForChip};
 ghost use Rattle.ca_targets.specs.Targets.{IsLibraryDefect};
 ghost use Rattle.ca_bridges.specs.code.Parts.{AreEach, StandsInFor, IsGoodFor};
 ghost use Rattle.ca_bridges.specs.Numbers.{IsStationOf};
 
-use crate::parts::{choices_of, finders_of, parts_of, rows_of, views_of};
+use crate::parts::{choice_of, choices_of, finders_of, parts_of, rows_of, views_of};
 use ca_base::NoMemory;
 use ca_benches::{Benches, Stations};
 use ca_choice::CheapestWay;
 use ca_engine::reserve_finder;
 use ca_flat::ExposableDefects;
 use ca_generate::{Bench, GenerateFault, Generated, Watch, generate};
-use ca_guide::Choice;
+use ca_judge::Attempts;
 use ca_linked::Chip;
 use ca_pair::Pair;
 use ca_rows::ChipRows;
@@ -81,13 +82,14 @@ fn no_memory(fault: GenerateFault) -> NoMemory {
 
 // The same with what the benches are made of, a choice of bits and a finder for each. It is for rows, a
 // choice and a finder of any type, so that the benches have few parts to the prover.
-fn generated_over<R: ExposableDefects, P: Choice + Drop, F: FlipFinder + Drop, T: Watch>(
+fn generated_over<R: ExposableDefects, P: Attempts + Drop, F: FlipFinder + Drop, T: Watch>(
     alloc: Global,
     own: &View<'_>,
     own_rows: &R,
     clusters: &[Cluster],
     views: &[View<'_>],
     rows: &[R],
+    own_choice: P,
     choices: Vec<P>,
     own_finder: F,
     finders: Vec<F>,
@@ -100,7 +102,9 @@ fn generated_over<R: ExposableDefects, P: Choice + Drop, F: FlipFinder + Drop, T
         clusters.now (length clusters.now) views.now }
     requires rows { AreEach (λ cluster one. R.chip one ≡ core_of cluster.chip)
         clusters.now (length clusters.now) rows.now }
-    requires choices { length choices.items ≡ length clusters.now + 1 }
+    requires own_choice { IsTriedOn own.now.core own.now.ranks (P.tried own_choice) }
+    requires choices { AreEach (λ view choice. IsTriedOn view.core view.ranks (P.tried choice))
+        views.now (length views.now) choices.items }
     requires own_finder { IsForChip own.now.core own.now.ranks (F.loaded own_finder) }
     requires finders { AreEach (λ view finder. IsForChip view.core view.ranks (F.loaded finder))
         views.now (length views.now) finders.items }
@@ -113,19 +117,21 @@ fn generated_over<R: ExposableDefects, P: Choice + Drop, F: FlipFinder + Drop, T
     own.viewed();
     let rest = zeros(alloc, own)?;
     let parts = parts_of(
-        alloc, own, own_rows, clusters, views, rows, choices, own_finder, finders, budget,
+        alloc, own, own_rows, clusters, views, rows, own_choice, choices, own_finder, finders,
+        budget,
     )?;
     generated_by(alloc, parts, stations, rest, watch)
 }
 
 // The same with a finder for each chip.
-fn generated_found<'a, R: ExposableDefects, P: Choice + Drop, T: Watch>(
+fn generated_found<'a, R: ExposableDefects, P: Attempts + Drop, T: Watch>(
     alloc: Global,
     own: &'a View<'a>,
     own_rows: &R,
     clusters: &'a [Cluster],
     views: &'a [View<'a>],
     rows: &[R],
+    own_choice: P,
     choices: Vec<P>,
     stations: Stations,
     budget: u32,
@@ -136,7 +142,9 @@ fn generated_found<'a, R: ExposableDefects, P: Choice + Drop, T: Watch>(
         clusters.now (length clusters.now) views.now }
     requires rows { AreEach (λ cluster one. R.chip one ≡ core_of cluster.chip)
         clusters.now (length clusters.now) rows.now }
-    requires choices { length choices.items ≡ length clusters.now + 1 }
+    requires own_choice { IsTriedOn own.now.core own.now.ranks (P.tried own_choice) }
+    requires choices { AreEach (λ view choice. IsTriedOn view.core view.ranks (P.tried choice))
+        views.now (length views.now) choices.items }
     requires shorts { All (λ cluster. All (IsLibraryDefect cluster.chip) cluster.shorts) clusters.now }
     requires stand_in { All (StandsInFor own.now.chip) clusters.now }
     requires stations { All (IsStationOf clusters.now) stations }
@@ -146,8 +154,8 @@ fn generated_found<'a, R: ExposableDefects, P: Choice + Drop, T: Watch>(
     let finders = finders_of(alloc, views)?;
     let own_finder = reserve_finder(alloc, own)?;
     generated_over(
-        alloc, own, own_rows, clusters, views, rows, choices, own_finder, finders, stations,
-        budget, watch,
+        alloc, own, own_rows, clusters, views, rows, own_choice, choices, own_finder, finders,
+        stations, budget, watch,
     )
 }
 
@@ -174,9 +182,10 @@ fn generated_cheaply<'a, T: Watch>(
     requires few { length stations ≤ MOST_PAIRS }
     ensures { IfOk result (IsGoodFor own.now.chip budget clusters.now stations) }
 {
-    let choices = choices_of(alloc, own, views)?;
+    let choices = choices_of(alloc, views)?;
+    let own_choice = choice_of(alloc, own)?;
     generated_found(
-        alloc, own, own_rows, clusters, views, rows, choices, stations, budget, watch,
+        alloc, own, own_rows, clusters, views, rows, own_choice, choices, stations, budget, watch,
     )
 }
 

@@ -4,6 +4,7 @@ ghost use Rattle.std.specs.Prelude.{◌≡◌, ◌<◌, ◌+◌, length, slice_g
 ghost use Rattle.std.specs.List.{All};
 ghost use Rattle.ca_core.specs.Core.{core_of};
 ghost use Rattle.ca_view.specs.View.{IsViewOf};
+ghost use Rattle.ca_judge.specs.Attempt.{IsTriedOn};
 ghost use Rattle.ca_sweep.specs.Seen.{IsForChip};
 ghost use Rattle.ca_targets.specs.Targets.{IsLibraryDefect};
 ghost use Rattle.ca_bridges.specs.code.Parts.{AreEach, IsPartOf, AreParts};
@@ -12,7 +13,7 @@ use ca_base::NoMemory;
 use ca_choice::CheapestWay;
 use ca_engine::{ChipBench, ChipDefects, reserve_finder};
 use ca_flat::ExposableDefects;
-use ca_guide::Choice;
+use ca_judge::{Attempts, ScopedChoice};
 use ca_rows::ChipRows;
 use ca_sweep::{Finder, FlipFinder};
 use ca_targets::{Cluster, ShortList, library_defects_are_placed};
@@ -59,28 +60,40 @@ pub(crate) fn rows_of<'a>(
     Ok(rows)
 }
 
-/// A choice of bits for a chip, the first, and for each of these.
-pub(crate) fn choices_of<'a>(
-    alloc: Global,
-    own: &'a View<'a>,
-    views: &'a [View<'a>],
-) -> Result<Vec<CheapestWay<'a>>, NoMemory>
-    ensures { IfOk result (λ choices. length choices.items ≡ length views.now + 1) }
-{
-    let mut choices = Vec::new(alloc);
-    choices.push(CheapestWay::reserve(alloc, own)?)?;
-    for k in 0..views.len() {
-        choices.push(CheapestWay::reserve(alloc, &views[k])?)?;
-    }
-    Ok(choices)
-}
-
 // The view at a place.
 fn view_at<'a>(views: &'a [View<'a>], k: usize) -> &'a View<'a>
     requires { k < length views.now }
     ensures { slice_get views.now k ≡ Some result.now }
 {
     &views[k]
+}
+
+/// The choice of bits for a chip.
+pub(crate) fn choice_of<'a>(
+    alloc: Global,
+    view: &'a View<'a>,
+) -> Result<ScopedChoice<'a, CheapestWay<'a>>, NoMemory>
+    ensures { IfOk result (IsTriedOn view.now.core view.now.ranks) }
+{
+    let cheapest = CheapestWay::reserve(alloc, view)?;
+    ScopedChoice::reserve(alloc, view, cheapest)
+}
+
+/// A choice of bits for each of these views.
+pub(crate) fn choices_of<'a>(
+    alloc: Global,
+    views: &'a [View<'a>],
+) -> Result<Vec<ScopedChoice<'a, CheapestWay<'a>>>, NoMemory>
+    ensures { IfOk result (λ choices. AreEach (λ view choice. IsTriedOn view.core view.ranks choice)
+        views.now (length views.now) choices.items) }
+{
+    let mut choices = Vec::new(alloc);
+    for k in 0..views.len() {
+        let view = view_at(views, k);
+        let choice = choice_of(alloc, view)?;
+        choices.push(choice)?;
+    }
+    Ok(choices)
 }
 
 /// A finder for each of these views.
@@ -113,7 +126,7 @@ fn copied(alloc: Global, shorts: &ShortList) -> Result<ChipDefects, NoMemory>
 
 // The bench of a chip for some defects of its library instances. It is for rows, a choice and a finder of any
 // type, so that it has few parts to the prover.
-fn part_of<'a, R: ExposableDefects, P: Choice + Drop, F: FlipFinder + Drop>(
+fn part_of<'a, R: ExposableDefects, P: Attempts + Drop, F: FlipFinder + Drop>(
     alloc: Global,
     view: &'a View<'a>,
     rows: &'a R,
@@ -123,6 +136,7 @@ fn part_of<'a, R: ExposableDefects, P: Choice + Drop, F: FlipFinder + Drop>(
     budget: u32,
 ) -> Result<ChipBench<'a, R, P, F>, NoMemory>
     requires rows { R.chip rows.now ≡ view.now.core }
+    requires choice { IsTriedOn view.now.core view.now.ranks (P.tried choice) }
     requires finder { IsForChip view.now.core view.now.ranks (F.loaded finder) }
     requires shorts { All (IsLibraryDefect view.now.chip) shorts.now }
     ensures { IfOk result (IsPartOf view.now.core shorts.now budget) }
@@ -143,7 +157,7 @@ fn row_at<R>(rows: &[R], k: usize) -> &R
 }
 
 // The bench of the cluster at a place.
-fn cluster_part<'a, R: ExposableDefects, P: Choice + Drop, F: FlipFinder + Drop>(
+fn cluster_part<'a, R: ExposableDefects, P: Attempts + Drop, F: FlipFinder + Drop>(
     alloc: Global,
     clusters: &'a [Cluster],
     views: &'a [View<'a>],
@@ -158,6 +172,8 @@ fn cluster_part<'a, R: ExposableDefects, P: Choice + Drop, F: FlipFinder + Drop>
         clusters.now (length clusters.now) views.now }
     requires rows { AreEach (λ cluster one. R.chip one ≡ core_of cluster.chip)
         clusters.now (length clusters.now) rows.now }
+    requires choice { IfSome (slice_get views.now k)
+        (λ view. IsTriedOn view.core view.ranks (P.tried choice)) }
     requires finder { IfSome (slice_get views.now k)
         (λ view. IsForChip view.core view.ranks (F.loaded finder)) }
     requires shorts { All (λ cluster. All (IsLibraryDefect cluster.chip) cluster.shorts) clusters.now }
@@ -171,15 +187,15 @@ fn cluster_part<'a, R: ExposableDefects, P: Choice + Drop, F: FlipFinder + Drop>
     Ok(part)
 }
 
-/// The bench of a chip for no defects, and those of clusters, each for its shorts. The first of the choices
-/// is the chip's own.
-pub(crate) fn parts_of<'a, R: ExposableDefects, P: Choice + Drop, F: FlipFinder + Drop>(
+/// The bench of a chip for no defects, and those of clusters, each for its shorts.
+pub(crate) fn parts_of<'a, R: ExposableDefects, P: Attempts + Drop, F: FlipFinder + Drop>(
     alloc: Global,
     own: &'a View<'a>,
     own_rows: &'a R,
     clusters: &'a [Cluster],
     views: &'a [View<'a>],
     rows: &'a [R],
+    own_choice: P,
     choices: Vec<P>,
     own_finder: F,
     finders: Vec<F>,
@@ -190,7 +206,9 @@ pub(crate) fn parts_of<'a, R: ExposableDefects, P: Choice + Drop, F: FlipFinder 
         clusters.now (length clusters.now) views.now }
     requires rows { AreEach (λ cluster one. R.chip one ≡ core_of cluster.chip)
         clusters.now (length clusters.now) rows.now }
-    requires choices { length choices.items ≡ length clusters.now + 1 }
+    requires own_choice { IsTriedOn own.now.core own.now.ranks (P.tried own_choice) }
+    requires choices { AreEach (λ view choice. IsTriedOn view.core view.ranks (P.tried choice))
+        views.now (length views.now) choices.items }
     requires own_finder { IsForChip own.now.core own.now.ranks (F.loaded own_finder) }
     requires finders { AreEach (λ view finder. IsForChip view.core view.ranks (F.loaded finder))
         views.now (length views.now) finders.items }
@@ -202,7 +220,6 @@ pub(crate) fn parts_of<'a, R: ExposableDefects, P: Choice + Drop, F: FlipFinder 
     let mut finders = finders;
     let mut parts = Vec::new(alloc);
     let none = ShortList::new(alloc);
-    let own_choice = choices.remove(0);
     let good = part_of(alloc, own, own_rows, own_choice, own_finder, &none, budget)?;
     parts.push(good)?;
     for k in 0..clusters.len() {

@@ -2,6 +2,7 @@
 
 ghost use Rattle.std.specs.Prelude.{◌≡◌, length, IfOk};
 ghost use Rattle.ca_credit.specs.Good.{IsGood};
+ghost use Rattle.ca_judge.specs.Attempt.{IsTriedOn};
 ghost use Rattle.ca_judge.specs.ChipJudge.{CanBeJudged};
 ghost use Rattle.ca_certify.specs.Verdicts.{verdicts_of, viewed_task};
 ghost use Rattle.ca_certify.specs.Proven.{AllStand};
@@ -16,8 +17,7 @@ use ca_credit::Verdicts;
 use ca_flat::ExposableDefects;
 use ca_flatten::{flat_is_well_formed, judge_size};
 use ca_generate::Generated;
-use ca_guide::Choice;
-use ca_judge::ChipJudge;
+use ca_judge::{Attempts, ChipJudge, ScopedChoice};
 use ca_rows::ChipRows;
 use ca_search::Search;
 use ca_view::View;
@@ -47,14 +47,15 @@ pub fn certify(
     view.viewed();
     flat_is_well_formed();
     judge_size(alloc, view.chip())?;
-    let choice = CheapestWay::reserve(alloc, view)?;
+    let cheapest = CheapestWay::reserve(alloc, view)?;
+    let choice = ScopedChoice::reserve(alloc, view, cheapest)?;
     let claims = claims_by(alloc, view, rows, choice, &made.verdicts, budget)?;
     Ok(Certificate { budget, claims })
 }
 
 // The claims, by rows and a choice of any type: so the judge that is dropped here has few parts to the
 // prover.
-fn claims_by<R: ExposableDefects, P: Choice + Drop>(
+fn claims_by<R: ExposableDefects, P: Attempts + Drop>(
     alloc: Global,
     view: &View<'_>,
     rows: &R,
@@ -63,6 +64,7 @@ fn claims_by<R: ExposableDefects, P: Choice + Drop>(
     budget: u32,
 ) -> Result<List<Claim>, NoMemory>
     requires rows { R.chip rows.now ≡ view.now.core }
+    requires choice { IsTriedOn view.now.core view.now.ranks (P.tried choice) }
     requires judged { CanBeJudged view.now.core }
     requires one_each { length verdicts.now ≡ length (viewed_task view.now budget).defects }
     requires known { AreKnown view.now.core (viewed_task view.now budget).defects verdicts.now }

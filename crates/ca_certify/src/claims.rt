@@ -13,13 +13,12 @@ use ca_base::{List, NoMemory};
 use ca_claim::Claim;
 use ca_credit::{Verdict, Verdicts};
 use ca_flat::{ChipDefect, ExposableDefects};
-use ca_guide::Choice;
-use ca_judge::ChipJudge;
+use ca_judge::{Attempts, ChipJudge};
 use ca_search::Search;
 use std::alloc::Global;
 
 // The claim on an untestable defect.
-fn proven_claim<R: ExposableDefects, P: Choice + Drop>(
+fn proven_claim<R: ExposableDefects, P: Attempts + Drop>(
     alloc: Global,
     judge: &mut ChipJudge<'_, R, P>,
     search: &mut Search,
@@ -42,7 +41,7 @@ fn proven_claim<R: ExposableDefects, P: Choice + Drop>(
 }
 
 // The claim on a defect with a verdict.
-fn claim_on<R: ExposableDefects, P: Choice + Drop>(
+fn claim_on<R: ExposableDefects, P: Attempts + Drop>(
     alloc: Global,
     judge: &mut ChipJudge<'_, R, P>,
     search: &mut Search,
@@ -74,7 +73,7 @@ fn claim_on<R: ExposableDefects, P: Choice + Drop>(
 }
 
 /// A claim on each defect of a list, of which each has a verdict.
-pub(crate) fn claims_on<R: ExposableDefects, P: Choice + Drop>(
+pub(crate) fn claims_on<R: ExposableDefects, P: Attempts + Drop>(
     alloc: Global,
     judge: &mut ChipJudge<'_, R, P>,
     search: &mut Search,

@@ -1,5 +1,6 @@
 //! The candidates of a linked chip.
 
+ghost use Rattle.ca_judge.specs.Attempt.{IsTriedOn};
 ghost use Rattle.ca_sweep.specs.Seen.{IsForChip};
 ghost use Rattle.std.specs.Prelude.{◌≡◌, IfOk};
 ghost use Rattle.ca_chip_diag.specs.Diagnosed.{CanBeDiagnosed};
@@ -8,9 +9,9 @@ ghost use Rattle.ca_engine.specs.ChipTask.{task_of};
 
 use ca_base::NoMemory;
 use ca_diag::{Candidates, diagnose};
-use ca_engine::{ChipBench, reserve_finder};
+use ca_engine::{ChipBench, NoAttempts, reserve_finder};
 use ca_generate::Watch;
-use ca_guide::{Choice, LowestUnset};
+use ca_judge::Attempts;
 use ca_linked::Chip;
 use ca_log::Log;
 use ca_pair::Pair;
@@ -21,7 +22,7 @@ use std::alloc::Global;
 
 // The candidates by rows, a choice and a finder of any type: so the bench that is dropped here has few parts
 // to the prover.
-fn diagnosed_by<R: ExposableDefects, P: Choice + Drop, F: FlipFinder + Drop, T: Watch>(
+fn diagnosed_by<R: ExposableDefects, P: Attempts + Drop, F: FlipFinder + Drop, T: Watch>(
     alloc: Global,
     view: &View<'_>,
     rows: &R,
@@ -32,6 +33,7 @@ fn diagnosed_by<R: ExposableDefects, P: Choice + Drop, F: FlipFinder + Drop, T: 
     watch: &mut T,
 ) -> Result<Candidates, NoMemory>
     requires rows { R.chip rows.now ≡ view.now.core }
+    requires choice { IsTriedOn view.now.core view.now.ranks (P.tried choice) }
     requires finder { IsForChip view.now.core view.now.ranks (F.loaded finder) }
     requires log { CanBeDiagnosed view.now.chip pairs.now log.now }
     ensures { IfOk result (AreCandidates (task_of view.now.chip 0) pairs.now log.now) }
@@ -56,7 +58,16 @@ fn diagnosed_found<R: ExposableDefects, T: Watch>(
     ensures { IfOk result (AreCandidates (task_of view.now.chip 0) pairs.now log.now) }
 {
     let finder = reserve_finder(alloc, view)?;
-    diagnosed_by(alloc, view, rows, LowestUnset, finder, pairs, log, watch)
+    diagnosed_by(
+        alloc,
+        view,
+        rows,
+        NoAttempts::new(view),
+        finder,
+        pairs,
+        log,
+        watch,
+    )
 }
 
 // The same over the chip's view. Each value is dropped in one place here and below: more places are slow to

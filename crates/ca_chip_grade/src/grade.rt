@@ -9,13 +9,14 @@ ghost use Rattle.ca_expected.specs.Expected.{AreExpected};
 ghost use Rattle.ca_flat.specs.Pair.{bit_count};
 ghost use Rattle.ca_grade.specs.GradeFault.{IsCause};
 ghost use Rattle.ca_grade.specs.Graded.{AreGraded};
+ghost use Rattle.ca_judge.specs.Attempt.{IsTriedOn};
 ghost use Rattle.ca_sweep.specs.Seen.{IsForChip};
 
 use ca_base::List;
-use ca_engine::{ChipBench, reserve_laned};
+use ca_engine::{ChipBench, NoAttempts, reserve_laned};
 use ca_generate::Watch;
 use ca_grade::{GradeFault, Grades, grade_judged};
-use ca_guide::{Choice, LowestUnset};
+use ca_judge::Attempts;
 use ca_linked::Chip;
 use ca_net::Trit;
 use ca_pair::Pair;
@@ -27,7 +28,7 @@ use std::alloc::Global;
 
 // The grades by rows, a choice and a finder of any type: so the bench that is dropped here has few parts to
 // the prover.
-fn graded_by<R: ExposableDefects, P: Choice + Drop, F: FlipFinder + Drop, T: Watch>(
+fn graded_by<R: ExposableDefects, P: Attempts + Drop, F: FlipFinder + Drop, T: Watch>(
     alloc: Global,
     view: &View<'_>,
     rows: &R,
@@ -38,6 +39,7 @@ fn graded_by<R: ExposableDefects, P: Choice + Drop, F: FlipFinder + Drop, T: Wat
     watch: &mut T,
 ) -> Result<Grades, GradeFault>
     requires rows { R.chip rows.now ≡ view.now.core }
+    requires choice { IsTriedOn view.now.core view.now.ranks (P.tried choice) }
     requires finder { IsForChip view.now.core view.now.ranks (F.loaded finder) }
     requires numbers { length pairs.now < 2 ^ 32 }
     requires bits { All (λ pair. length pair ≡ bit_count (core_of view.now.chip)) pairs.now }
@@ -76,7 +78,7 @@ fn graded_laned<R: ExposableDefects, T: Watch>(
         alloc,
         view,
         rows,
-        LowestUnset,
+        NoAttempts::new(view),
         lanes,
         pairs,
         expected,

@@ -7,14 +7,15 @@ ghost use Rattle.ca_core.specs.Core.{core_of};
 ghost use Rattle.ca_expected.specs.Expected.{AreExpected};
 ghost use Rattle.ca_flat.specs.Pair.{bit_count};
 ghost use Rattle.ca_grade.specs.GradeFault.{IsCause};
+ghost use Rattle.ca_judge.specs.Attempt.{IsTriedOn};
 ghost use Rattle.ca_sweep.specs.Seen.{IsForChip};
 
 use ca_base::List;
 use ca_credit::Simulator;
-use ca_engine::{ChipBench, reserve_finder};
+use ca_engine::{ChipBench, NoAttempts, reserve_finder};
 use ca_expected::first_wrong;
 use ca_grade::GradeFault;
-use ca_guide::{Choice, LowestUnset};
+use ca_judge::Attempts;
 use ca_linked::Chip;
 use ca_net::Trit;
 use ca_pair::Pair;
@@ -44,7 +45,7 @@ fn judged<S: Simulator>(
 
 // The same by rows, a choice and a finder of any type: so the bench that is dropped here has few parts to
 // the prover.
-fn judged_by<R: ExposableDefects, P: Choice + Drop, F: FlipFinder + Drop>(
+fn judged_by<R: ExposableDefects, P: Attempts + Drop, F: FlipFinder + Drop>(
     alloc: Global,
     view: &View<'_>,
     rows: &R,
@@ -54,6 +55,7 @@ fn judged_by<R: ExposableDefects, P: Choice + Drop, F: FlipFinder + Drop>(
     expected: &[List<Trit>],
 ) -> Result<(), GradeFault>
     requires rows { R.chip rows.now ≡ view.now.core }
+    requires choice { IsTriedOn view.now.core view.now.ranks (P.tried choice) }
     requires finder { IsForChip view.now.core view.now.ranks (F.loaded finder) }
     requires bits { All (λ pair. length pair ≡ bit_count (core_of view.now.chip)) pairs.now }
     requires counted { length pairs.now ≡ length expected.now }
@@ -83,7 +85,15 @@ fn judged_found<R: ExposableDefects>(
     ensures cause { IfErr result (IsCause (core_of view.now.chip) pairs.now expected.now) }
 {
     let finder = reserve_finder(alloc, view)?;
-    judged_by(alloc, view, rows, LowestUnset, finder, pairs, expected)
+    judged_by(
+        alloc,
+        view,
+        rows,
+        NoAttempts::new(view),
+        finder,
+        pairs,
+        expected,
+    )
 }
 
 // The same over the chip's view.

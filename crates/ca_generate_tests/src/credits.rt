@@ -4,6 +4,7 @@
 ghost use Rattle.std.specs.Prelude.{◌≡◌, ◌<◌, ◌^◌, length, IfSome};
 ghost use Rattle.std.specs.List.{All};
 ghost use Rattle.ca_flat.specs.Pair.{bit_count};
+ghost use Rattle.ca_judge.specs.Attempt.{IsTriedOn};
 ghost use Rattle.ca_sweep.specs.Seen.{IsForChip};
 
 use crate::chips::{CREDITED, INV, ONE_BRANCH};
@@ -14,7 +15,8 @@ use ca_choice::CheapestWay;
 use ca_credit::{BLOCK, Credits, Simulator};
 use ca_engine::{ChipBench, reserve_finder, reserve_laned};
 use ca_generate::{Bench, Unwatched, generate};
-use ca_guide::{Choice, LowestUnset};
+use ca_guide::LowestUnset;
+use ca_judge::{Attempts, ScopedChoice};
 use ca_lex::Text;
 use ca_linked::Chip;
 use ca_pair::{Pair, Pairs};
@@ -158,7 +160,7 @@ struct Reported {
 
 // What is reported about a bench of a chip, given its view and its rows. Pairs have `bits` bits. Each value
 // is dropped in one place here and below: more places are slow to prove.
-fn tell_over<R: ExposableDefects, P: Choice + Drop, F: FlipFinder + Drop>(
+fn tell_over<R: ExposableDefects, P: Attempts + Drop, F: FlipFinder + Drop>(
     alloc: Global,
     view: &View<'_>,
     rows: &R,
@@ -171,6 +173,7 @@ fn tell_over<R: ExposableDefects, P: Choice + Drop, F: FlipFinder + Drop>(
 ) -> Result<Reported, NoMemory>
     requires rows { R.chip rows.now ≡ view.now.core }
     requires finder { IsForChip view.now.core view.now.ranks (F.loaded finder) }
+    requires choice { IsTriedOn view.now.core view.now.ranks (P.tried choice) }
     requires bits { All (λ pair. length pair ≡ bits) pairs.now }
     requires numbers { length pairs.now < 2 ^ 32 }
 {
@@ -191,7 +194,7 @@ fn tell_over<R: ExposableDefects, P: Choice + Drop, F: FlipFinder + Drop>(
 }
 
 // The same with a finder: blocks of pairs are credited with lanes, all else without.
-fn tell_found<R: ExposableDefects, P: Choice + Drop>(
+fn tell_found<R: ExposableDefects, P: Attempts + Drop>(
     alloc: Global,
     view: &View<'_>,
     rows: &R,
@@ -202,6 +205,7 @@ fn tell_found<R: ExposableDefects, P: Choice + Drop>(
     asked: Asked,
 ) -> Result<Reported, NoMemory>
     requires rows { R.chip rows.now ≡ view.now.core }
+    requires choice { IsTriedOn view.now.core view.now.ranks (P.tried choice) }
     requires bits { All (λ pair. length pair ≡ bits) pairs.now }
     requires numbers { length pairs.now < 2 ^ 32 }
 {
@@ -233,9 +237,11 @@ fn tell_by_choice(
 {
     view.viewed();
     if let Asked::Verdict(_) = asked {
-        return tell_found(alloc, view, rows, LowestUnset, budget, pairs, bits, asked);
+        let choice = ScopedChoice::reserve(alloc, view, LowestUnset)?;
+        return tell_found(alloc, view, rows, choice, budget, pairs, bits, asked);
     }
-    let choice = CheapestWay::reserve(alloc, view)?;
+    let cheapest = CheapestWay::reserve(alloc, view)?;
+    let choice = ScopedChoice::reserve(alloc, view, cheapest)?;
     tell_found(alloc, view, rows, choice, budget, pairs, bits, asked)
 }
 

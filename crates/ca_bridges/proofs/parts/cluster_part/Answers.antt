@@ -1,5 +1,6 @@
 use Rattle.std.proofs.Common.{◌≡◌, ◌∙◌, sym, ap, subst, List}
 use Rattle.std.specs.Prelude.{IfSome, IsSomeAnd, Option}
+use Rattle.ca_judge.specs.Attempt.{IsTriedOn}
 use Rattle.ca_sweep.specs.Seen.{IsForChip}
 use Rattle.ca_view.specs.View.{Viewed}
 use Rattle.ca_flat.specs.declared.chip_defect.ChipDefect.{ChipDefect}
@@ -20,6 +21,11 @@ part_of-requires-clause-rows g c =
     let view = c.view_at-view.result.now in
     let is = c.requires.views.each c.args.k cluster view c.cluster_at-cluster.ensures c.view_at-view.ensures in
     c.requires.rows.each c.args.k cluster c.row_at-row.result.now c.cluster_at-cluster.ensures c.row_at-row.ensures ∙ sym is.core_is
+
+pub part_of-requires-clause-choice : goal.part_of-requires-clause-choice
+part_of-requires-clause-choice g c =
+    subst (λ (it : Option Viewed). IfSome it (λ view. IsTriedOn view.core view.ranks (g.P.Attempts.tried c.args.choice))) c.view_at-view.ensures
+    c.requires.choice
 
 pub part_of-requires-clause-finder : goal.part_of-requires-clause-finder
 part_of-requires-clause-finder g c =
