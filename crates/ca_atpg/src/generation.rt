@@ -1,5 +1,6 @@
 //! Test generation on a linked chip.
 
+ghost use Rattle.ca_judge.specs.Attempt.{IsTriedOn};
 ghost use Rattle.ca_sweep.specs.Seen.{IsForChip};
 ghost use Rattle.std.specs.Prelude.{◌≡◌, length, IfOk, IfErr};
 ghost use Rattle.std.specs.List.{All};
@@ -17,7 +18,9 @@ use ca_base::NoMemory;
 use ca_credit::Verdicts;
 use ca_engine::{ChipBench, NoAttempts, generate_over, reserve_finder};
 use ca_expected::{Expected, expected};
+use ca_flat::ExposableDefects;
 use ca_generate::{Aims, GenerateFault, Generated, Watch};
+use ca_judge::Attempts;
 use ca_lex::Text;
 use ca_linked::Chip;
 use ca_pair::Pairs;
@@ -45,23 +48,25 @@ struct Made {
     values: Expected,
 }
 
-// What the good chip ends with under each pair, by a finder of any type: so the bench that is dropped here
-// has few parts to the prover.
-fn values_by<F: FlipFinder + Drop>(
+// What the good chip ends with under each pair, by rows, a choice and a finder of any type: so the bench that
+// is dropped here has few parts to the prover.
+fn values_by<R: ExposableDefects, P: Attempts + Drop, F: FlipFinder + Drop>(
     alloc: Global,
     view: &View<'_>,
-    rows: &ChipRows<'_>,
+    rows: &R,
+    choice: P,
     finder: F,
     pairs: &Pairs,
 ) -> Result<Expected, NoMemory>
-    requires rows { rows.now.chip ≡ view.now.chip }
+    requires rows { R.chip rows.now ≡ view.now.core }
+    requires choice { IsTriedOn view.now.core view.now.ranks (P.tried choice) }
     requires finder { IsForChip view.now.core view.now.ranks (F.loaded finder) }
     requires whole { All (λ pair. length pair ≡ bit_count (core_of view.now.chip)) pairs.now }
 
     ensures { IfOk result (AreExpected (core_of view.now.chip) pairs.now) }
 {
     view.viewed();
-    let mut bench = ChipBench::reserve(alloc, view, rows, NoAttempts::new(view), finder, 0)?;
+    let mut bench = ChipBench::reserve(alloc, view, rows, choice, finder, 0)?;
     let values = expected(alloc, &mut bench, pairs.as_slice());
     drop(bench);
     values
@@ -79,8 +84,9 @@ fn values_for(
 
     ensures { IfOk result (AreExpected (core_of view.now.chip) pairs.now) }
 {
+    view.viewed();
     let finder = reserve_finder(alloc, view)?;
-    values_by(alloc, view, rows, finder, pairs)
+    values_by(alloc, view, rows, NoAttempts::new(view), finder, pairs)
 }
 
 /// The text of these pairs, with what the good chip ends with under each, over its view and rows.
