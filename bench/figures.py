@@ -67,7 +67,7 @@ def generation(program, sets, more=()):
 
 
 def chips(program):
-    return generation(program, ["examples", "mapped"]) + generation(program, ["aes"], ["--budgets", "64"])[2:]
+    return generation(program, ["examples", "mapped"]) + generation(program, ["wide", "aes"], ["--budgets", "64,128"])[2:]
 
 
 def made(program):
