@@ -27,9 +27,6 @@ pub(crate) fn untestable_marks<R: ExposingRows>(
     ensures { IfOk result (λ marks. (budget : ℕ)
         → AreUntestable (task_of view.now.chip budget) marks.items) }
 {
-    if view.input_count() > MOST_VECTOR_BITS {
-        return Ok(Vec::new(alloc));
-    }
     tried_marks(alloc, view, rows)
 }
 

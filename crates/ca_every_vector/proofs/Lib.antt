@@ -1,5 +1,10 @@
 pub mod LawLemmas
+pub mod InsideLemmas
 pub mod MaskLemmas
 pub mod VectorLemmas
 pub mod FindLemmas
+pub mod GivenLemmas
+pub mod SpreadLemmas
+pub mod RegionLemmas
+pub mod SureLemmas
 pub mod TableLemmas

@@ -14,6 +14,8 @@ ghost use Rattle.ca_every_vector.specs.code.Masks.{HaveFirsts, HaveLasts, IsRowO
 
 use crate::find::{find_firsts, find_lasts};
 use crate::laws::impossible_is_untestable;
+use crate::regions::find_inside;
+use crate::tables::tables_of;
 use crate::vectors::MOST_VECTOR_BITS;
 use ca_base::NoMemory;
 use ca_defect::Rows;
@@ -53,11 +55,22 @@ impl<'a> EveryVector<'a> {
     pub fn new(alloc: Global, chip: &'a View<'a>) -> Result<Self, NoMemory>
         ensures { IfOk result (λ table. table ≡ chip.now.core) }
     {
-        if chip.input_count() > MOST_VECTOR_BITS || chip.output_count() > u32::MAX as usize {
+        if chip.output_count() > u32::MAX as usize {
             return Ok(EveryVector {
                 chip,
                 firsts: Vec::new(alloc),
                 lasts: Vec::new(alloc),
+            });
+        }
+        if chip.input_count() > MOST_VECTOR_BITS {
+            let tables = tables_of(alloc, chip)?;
+            let firsts = vec![in alloc; u64::MAX; chip.instances()]?;
+            let mut lasts = vec![in alloc; u64::MAX; chip.instances()]?;
+            find_inside(alloc, chip, tables.as_slice(), &mut lasts)?;
+            return Ok(EveryVector {
+                chip,
+                firsts,
+                lasts,
             });
         }
         let firsts = first_masks(alloc, chip)?;

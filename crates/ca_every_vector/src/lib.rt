@@ -4,12 +4,18 @@
 
 mod every_vector;
 mod find;
+mod given;
+mod known;
 mod laws;
 mod masks;
+mod regions;
 mod rows;
+mod spread;
+mod supports;
+mod tables;
 mod values;
 mod vectors;
 
 pub use every_vector::EveryVector;
-pub use laws::impossible_is_untestable;
+pub use laws::{impossible_is_untestable, outside_is_untestable};
 pub use vectors::MOST_VECTOR_BITS;
