@@ -57,7 +57,7 @@ pub trait Attempts {
 
     /// Looks for a pair that shows the defect that is aimed at, on a way from the pair of which no bit is
     /// set. Whether the pair is in hand then: the simulator has its bits, and the numbers are those of the
-    /// tokens of the way. Else the simulator stays.
+    /// tokens of the way. Else any pair may be in hand, and any tokens are there.
     fn try_ways(&mut self, aimed: &Aimed<'_>, sim: &mut Sim<'_>, numbers: &mut Vec<u16>) -> bool
         requires aimed { IsAimed aimed.now.view.now.core aimed.now.view.now.lists aimed.now.guide.now
             aimed.now.defect }

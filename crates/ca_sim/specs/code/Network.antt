@@ -25,12 +25,12 @@ abbrev pub NoneBefore : PlaceSet → ℕ → Type 0
 NoneBefore due end = (place : ℕ) → place < end → Has due place → ⊥
 
 -- Whatever the pair is: where each instance that wasn't due was current, each is, and none is due.
-pub record IsSettled (chip : Chip) (place_of : ℕ → ℕ) (given : Option ChipDefect) (old new : Network) : Type 0
-  where
-    pub ready : IsReady chip place_of new
-    pub none : (place : ℕ) → Has new.due place → ⊥
-    pub current : (pair : List Trit) → IsSimulated chip given pair (IsDue place_of old.due) old.waves
-        → IsSimulated chip given pair none_due new.waves
+pub record IsSettled (chip : Chip) (place_of : ℕ → ℕ) (given : Option ChipDefect)
+    (old new : Network) : Type 0 where
+  pub ready : IsReady chip place_of new
+  pub none : (place : ℕ) → Has new.due place → ⊥
+  pub current : (pair : List Trit) → IsSimulated chip given pair (IsDue place_of old.due) old.waves
+      → IsSimulated chip given pair none_due new.waves
 
 -- the network has the waves of these bits, but for instances that are due
 pub record IsUnderway (chip : Chip) (place_of : ℕ → ℕ) (given : Option ChipDefect) (bits : List Trit)
