@@ -8,7 +8,8 @@ use Rattle.ca_cell.specs.declared.raw.RawCell.{RawCell}
 use Rattle.ca_flat.specs.Chip.{Chip, cell_at, count_of}
 use Rattle.ca_view.specs.Linked.{IsLinked, IsPlaced}
 use Rattle.ca_static.specs.LastTable.{IsLastTable, IsTableWhereStatic}
-use Rattle.ca_sweep.specs.code.Cells.{FitsNumber, AreAtPlaces}
+use Rattle.ca_sweep.specs.Tables.{AreAtPlaces}
+use Rattle.ca_sweep.specs.code.Cells.{FitsNumber}
 
 -- the table of one instance's cell is that of each with its number
 pub fits_of_one : (chip : Chip) (place_of number_of : ℕ → ℕ) (number u : ℕ) (table : Option (List (List Wave)))

@@ -9,7 +9,8 @@ use Rattle.ca_flips.specs.Static.{IsStatic}
 use Rattle.ca_flips.specs.Flips.{IsAfter}
 use Rattle.ca_view.specs.Linked.{Reads, IsLinked, IsPlaced}
 use Rattle.ca_sweep.specs.Seen.{IsClear}
-use Rattle.ca_sweep.specs.code.Kept.{IsPassing, AreDefinitePins, AreOutputsClear, AreMarks, AreAllDefinite, AreAllStatic, is_marked}
+use Rattle.ca_sweep.specs.Tables.{AreMarks, is_marked}
+use Rattle.ca_sweep.specs.code.Kept.{IsPassing, AreDefinitePins, AreOutputsClear, AreAllDefinite, AreAllStatic}
 
 module _ (chip : Chip) (goods : ℕ → Trit) where
   -- what holds of an instance that a chain from the net leads to, where all that read the net pass flips on

@@ -1,4 +1,5 @@
 -- What the contracts of this crate say, in reading order.
+pub mod Tables
 pub mod Seen
 pub mod Found
 pub mod Spans

@@ -3,7 +3,8 @@
 ghost use Rattle.std.specs.Prelude.{◌<◌, ◌≡◌, ◌+◌, None, Some, slice_set, length, IfOk};
 ghost use Rattle.ca_view.specs.Linked.{place_in};
 ghost use Rattle.ca_view.specs.Places.{cell_number};
-ghost use Rattle.ca_sweep.specs.code.Cells.{AreTables, FitsNumber, IsOrder};
+ghost use Rattle.ca_sweep.specs.Tables.{AreTables, IsOrder};
+ghost use Rattle.ca_sweep.specs.code.Cells.{FitsNumber};
 
 use ca_base::NoMemory;
 use ca_cell::Cell;
@@ -13,11 +14,11 @@ use ca_static::LastTable;
 use ca_view::View;
 use std::alloc::Global;
 
-/// For each cell its table, if it is static.
-pub(crate) type Tables = Vec<Option<LastTable>>;
+/// For each number of a cell its table, if the cell is static.
+pub type Tables = Vec<Option<LastTable>>;
 
 /// The tables of the cells of all instances with a place.
-pub(crate) fn tables_of(alloc: Global, chip: &View<'_>) -> Result<Tables, NoMemory>
+pub fn tables_of(alloc: Global, chip: &View<'_>) -> Result<Tables, NoMemory>
     ensures { IfOk result (λ tables. AreTables chip.now.core (place_in chip.now.ranks)
         (cell_number chip.now.chip) tables.items) }
 {
@@ -71,8 +72,8 @@ fn put_at(order: &mut Vec<Option<usize>>, place: usize, u: usize)
     order[place] = Some(u);
 }
 
-/// The instances by their places.
-pub(crate) fn order_of(alloc: Global, chip: &View<'_>) -> Result<Vec<Option<usize>>, NoMemory>
+/// The instances by their places: at each place its instance, if some instance has it.
+pub fn order_of(alloc: Global, chip: &View<'_>) -> Result<Vec<Option<usize>>, NoMemory>
     ensures { IfOk result (λ order. IsOrder chip.now.core (place_in chip.now.ranks) order.items) }
 {
     chip.linked();

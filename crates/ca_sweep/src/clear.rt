@@ -1,19 +1,21 @@
 //! Which instances are clear: those after them are static, and the good last values are definite there.
 
-ghost use Rattle.std.specs.Prelude.{ℕ, ◌≡◌, ◌<◌, length, true, IsTrue};
+ghost use Rattle.std.specs.Prelude.{ℕ, ◌≡◌, ◌<◌, length, true, IsTrue, IfOk};
 ghost use Rattle.ca_net.specs.State.{value_at};
 ghost use Rattle.ca_flat.specs.Chip.{outputs_at, count_of};
 ghost use Rattle.ca_view.specs.Linked.{IsPlaced, place_in};
 ghost use Rattle.ca_view.specs.Places.{cell_number};
 ghost use Rattle.ca_sweep.specs.Seen.{IsClear};
-ghost use Rattle.ca_sweep.specs.code.Cells.{AreTables, IsOrder};
+ghost use Rattle.ca_sweep.specs.Tables.{AreTables, IsOrder};
 ghost use Rattle.ca_sweep.specs.code.Kept.{AreDefinitePins, IsPassing, AreReadersMarked, AreOutputsClear};
-ghost use Rattle.ca_sweep.specs.code.Kept.{AreMarks};
+ghost use Rattle.ca_sweep.specs.Tables.{AreMarks};
 
 use crate::cells::Tables;
-use crate::pinned::are_all_definite;
+use crate::pinned::{are_all_definite, pinned_nets};
+use ca_base::NoMemory;
 use ca_net::{State, Trit};
 use ca_view::View;
+use std::alloc::Global;
 
 // Whether the values of an instance's input nets are definite.
 fn are_definite_pins(chip: &View<'_>, lasts: &State, w: usize) -> bool
@@ -86,7 +88,7 @@ fn unmark(marks: &mut Vec<bool>)
     }
 }
 
-ghost use Rattle.ca_sweep.specs.code.Kept.{is_marked};
+ghost use Rattle.ca_sweep.specs.Tables.{is_marked};
 
 // Whether the cell of an instance is static, if it has a place.
 fn is_static_at(chip: &View<'_>, tables: &Tables, u: usize) -> bool
@@ -204,4 +206,36 @@ fn mark(
         clear[u] = true;
         passing[u] = is_passing(chip, tables, lasts, u);
     }
+}
+
+/// Marks the clear instances: those after them are static, and the values, one for each net, are definite there.
+pub fn clear_instances(
+    alloc: Global,
+    chip: &View<'_>,
+    tables: &Tables,
+    order: &[Option<usize>],
+    values: &State,
+) -> Result<Vec<bool>, NoMemory>
+    requires tables { AreTables chip.now.core (place_in chip.now.ranks) (cell_number chip.now.chip)
+        tables.now.items }
+    requires order { IsOrder chip.now.core (place_in chip.now.ranks) order.now }
+    requires nets { length values.now ≡ length chip.now.core.nets }
+    ensures { IfOk result (λ clear. AreMarks chip.now.core
+        (IsClear chip.now.core (value_at values.now)) clear.items) }
+{
+    let is_static = are_all_static(chip, tables);
+    let pinned = pinned_nets(alloc, chip)?;
+    let mut clear = vec![in alloc; false; chip.instances()]?;
+    let mut passing = vec![in alloc; false; chip.instances()]?;
+    find_clear(
+        chip,
+        tables,
+        is_static,
+        order,
+        &pinned,
+        values,
+        &mut clear,
+        &mut passing,
+    );
+    Ok(clear)
 }

@@ -5,7 +5,7 @@ ghost use Rattle.ca_planes.specs.Plane.{has_lane, lane_at};
 ghost use Rattle.ca_flat.specs.Chip.{count_of};
 ghost use Rattle.ca_view.specs.Linked.{IsPlaced, place_in};
 ghost use Rattle.ca_view.specs.Places.{cell_number};
-ghost use Rattle.ca_sweep.specs.code.Cells.{AreTables, IsOrder};
+ghost use Rattle.ca_sweep.specs.Tables.{AreTables, IsOrder};
 ghost use Rattle.ca_sweep.specs.code.Faulty.{code_of};
 ghost use Rattle.ca_sweep.specs.code.Firsts.{AreFirsts};
 ghost use Rattle.ca_sweep.specs.code.Held.{IsAtRest};

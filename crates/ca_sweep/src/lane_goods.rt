@@ -7,7 +7,7 @@ ghost use Rattle.ca_flat.specs.Pair.{bit_count};
 ghost use Rattle.ca_static.specs.LastTable.{IsLastTable};
 ghost use Rattle.ca_view.specs.Linked.{IsPlaced, place_in};
 ghost use Rattle.ca_view.specs.Places.{cell_number};
-ghost use Rattle.ca_sweep.specs.code.Cells.{AreTables, IsOrder};
+ghost use Rattle.ca_sweep.specs.Tables.{AreTables, IsOrder};
 ghost use Rattle.ca_sweep.specs.code.Kept.{AreAllStatic};
 
 use crate::cells::Tables;

@@ -10,7 +10,7 @@ ghost use Rattle.ca_view.specs.Linked.{IsPlaced, place_in};
 ghost use Rattle.ca_view.specs.Places.{cell_number};
 ghost use Rattle.ca_static.specs.LastTable.{IsLastTable};
 ghost use Rattle.ca_sweep.specs.Seen.{flipped_if};
-ghost use Rattle.ca_sweep.specs.code.Cells.{AreTables};
+ghost use Rattle.ca_sweep.specs.Tables.{AreTables};
 ghost use Rattle.ca_sweep.specs.code.Firsts.{AreFirsts, IsLessened};
 ghost use Rattle.ca_sweep.specs.code.Held.{IsAtRest, IsHeld};
 ghost use Rattle.ca_sweep.specs.code.Kept.{AreAllStatic};

@@ -28,6 +28,8 @@ mod spans;
 mod sweep;
 mod values;
 
+pub use cells::{Tables, order_of, tables_of};
+pub use clear::clear_instances;
 pub use finder::Finder;
 pub use flip_finder::FlipFinder;
 pub use lane_sweep::LaneSweep;

@@ -5,7 +5,7 @@ ghost use Rattle.ca_net.specs.State.{value_at};
 ghost use Rattle.ca_view.specs.Linked.{IsPlaced, place_in};
 ghost use Rattle.ca_view.specs.Places.{cell_number};
 ghost use Rattle.ca_sweep.specs.Seen.{flipped_if};
-ghost use Rattle.ca_sweep.specs.code.Cells.{AreTables, IsOrder};
+ghost use Rattle.ca_sweep.specs.Tables.{AreTables, IsOrder};
 ghost use Rattle.ca_sweep.specs.code.Changes.{AreRoomy, IsEvaluatedAt};
 ghost use Rattle.ca_sweep.specs.code.Held.{IsAtRest, IsHeld};
 ghost use Rattle.ca_places.specs.PlaceSet.{IsNext};

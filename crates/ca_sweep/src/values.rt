@@ -9,7 +9,7 @@ ghost use Rattle.ca_view.specs.Linked.{IsPlaced, place_in};
 ghost use Rattle.ca_view.specs.Places.{cell_number};
 ghost use Rattle.ca_static.specs.LastTable.{IsLastTable, last_at};
 ghost use Rattle.ca_sweep.specs.Seen.{flipped_outputs};
-ghost use Rattle.ca_sweep.specs.code.Cells.{AreTables};
+ghost use Rattle.ca_sweep.specs.Tables.{AreTables};
 ghost use Rattle.ca_sweep.specs.code.Changes.{AreRoomy, IsMarked, IsPut, IsWritten, IsNumberOf};
 ghost use Rattle.ca_sweep.specs.code.Changes.{IsEvaluatedOut};
 ghost use Rattle.ca_places.specs.PlaceSet.{HoldsUpTo};

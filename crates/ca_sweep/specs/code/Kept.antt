@@ -1,6 +1,5 @@
 -- What only proofs of code cite: marks of instances that are clear and pass flips on, and what a sweep keeps.
-use Rattle.std.specs.Prelude.{ℕ, ◌+◌, ◌^◌, ◌≡◌, ◌≢◌, ◌<◌, Bool, true, false, List, length, slice_index_or}
-use Rattle.std.specs.Prelude.{Option}
+use Rattle.std.specs.Prelude.{ℕ, ◌+◌, ◌^◌, ◌≡◌, ◌≢◌, ◌<◌, Bool, true, List, length, Option}
 use Rattle.ca_net.specs.declared.trit.Trit.{Trit}
 use Rattle.ca_net.specs.declared.trit.Trit.TheVariants.{X}
 use Rattle.ca_net.specs.declared.wave.Wave.{Wave}
@@ -12,7 +11,7 @@ use Rattle.ca_sweep.specs.declared.values.Values.{Values}
 use Rattle.ca_sweep.specs.declared.segments.Segments.{Segments}
 use Rattle.ca_sweep.specs.Seen.{IsClear}
 use Rattle.ca_sweep.specs.code.Segments.{AreSegments}
-use Rattle.ca_sweep.specs.code.Cells.{AreTables, IsOrder}
+use Rattle.ca_sweep.specs.Tables.{AreTables, IsOrder, is_marked, AreMarks}
 use Rattle.ca_sweep.specs.code.Firsts.{AreFirsts}
 use Rattle.ca_sweep.specs.code.Held.{IsAtRest}
 use Rattle.ca_sweep.specs.code.Pinned.{ArePinnedMarked}
@@ -41,10 +40,6 @@ ArePinsDefinite chip goods w =
 abbrev pub AreAllDefinite : Chip → (ℕ → ℕ) → (ℕ → Trit) → Type 0
 AreAllDefinite chip place_of goods = (w : ℕ) → IsPlaced chip place_of w → ArePinsDefinite chip goods w
 
--- whether the instance is marked
-abbrev pub is_marked : List Bool → ℕ → Bool
-is_marked marks u = slice_index_or marks u false
-
 -- all that read the net are marked
 abbrev pub AreReadersMarked : Chip → List Bool → ℕ → Type 0
 AreReadersMarked chip marks net = (w : ℕ) → Reads chip w net → is_marked marks w ≡ true
@@ -54,11 +49,6 @@ abbrev pub AreOutputsClear : Chip → (ℕ → Trit) → List Bool → ℕ → �
 AreOutputsClear chip goods marks u count =
     (output : ℕ) → output < count → (goods (output_net chip u output) ≢ X)
     × AreReadersMarked chip marks (output_net chip u output)
-
--- a mark for each instance; what is marked has the property
-pub record AreMarks (chip : Chip) (P : ℕ → Type 0) (marks : List Bool) : Type 0 where
-  pub room : length marks ≡ count_of chip
-  pub each : (u : ℕ) → is_marked marks u ≡ true → P u
 
 -- The nets of the observed outputs, the first outputs of nets, the tables of the cells, the instances by
 -- their places, marks of the nets on pins, a value for each net, which instances are clear, and parts of

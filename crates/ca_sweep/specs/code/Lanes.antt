@@ -17,7 +17,7 @@ use Rattle.ca_sweep.specs.declared.seen.Flips.{Flips}
 use Rattle.ca_sweep.specs.declared.values.Values.{Values}
 use Rattle.ca_view.specs.Linked.{IsPlaced}
 pub use Rattle.ca_sweep.specs.Seen.{trits_in}
-use Rattle.ca_sweep.specs.code.Cells.{AreTables, IsOrder}
+use Rattle.ca_sweep.specs.Tables.{AreTables, IsOrder}
 use Rattle.ca_sweep.specs.code.Changes.{IsDue}
 use Rattle.ca_sweep.specs.code.Firsts.{AreFirsts}
 use Rattle.ca_sweep.specs.code.Kept.{AreAllStatic}

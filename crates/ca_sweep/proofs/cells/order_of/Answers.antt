@@ -1,7 +1,7 @@
 use Rattle.std.proofs.Common.{set, Some, ◌+◌, ◌<◌, sym, subst, ap, ◌∙◌, arith}
 use Rattle.ca_view.specs.Linked.{place_in}
 use Rattle.ca_view.specs.Places.{cell_number}
-use Rattle.ca_sweep.specs.code.Cells.{AreAtPlaces}
+use Rattle.ca_sweep.specs.Tables.{AreAtPlaces}
 use Rattle.ca_sweep.proofs.CellLemmas.{order_skipped, order_put}
 use Rattle.ca_sweep.proofs.cells.order_of.Goals.{then-place-gt0, else-place-gt0}
 use Rattle.ca_sweep.proofs.cells.order_of.Goals as goal

@@ -1,5 +1,5 @@
 use Rattle.ca_view.specs.Linked.{place_in}
-use Rattle.ca_sweep.specs.code.Cells.{AreAtPlaces}
+use Rattle.ca_sweep.specs.Tables.{AreAtPlaces}
 use Rattle.ca_sweep.proofs.cells.order_of.Given as goal
 
 abbrev pub invariant-loop-u : goal.invariant-loop-u

@@ -3,7 +3,7 @@ use Rattle.std.proofs.lemmas.Option.{get_or_from_slice_get}
 use Rattle.std.proofs.lemmas.List.Elements.{All-contains, All-from_get_or}
 use Rattle.ca_sim.proofs.Marking.{listed_reads}
 use Rattle.ca_view.specs.Readers.{row_at}
-use Rattle.ca_sweep.specs.code.Kept.{is_marked}
+use Rattle.ca_sweep.specs.Tables.{is_marked}
 use Rattle.ca_sweep.proofs.clear.are_readers_marked.Goals as goal
 
 pub bounds-marks-reader : goal.bounds-marks-reader

@@ -1,6 +1,6 @@
 use Rattle.std.proofs.Common.{ℕ, ◌≡◌, ◌<◌, get_or, true}
 use Rattle.ca_view.specs.Readers.{row_at}
-use Rattle.ca_sweep.specs.code.Kept.{is_marked}
+use Rattle.ca_sweep.specs.Tables.{is_marked}
 use Rattle.ca_sweep.proofs.clear.are_readers_marked.Given as goal
 
 abbrev pub invariant-loop-k : goal.invariant-loop-k

@@ -1,6 +1,6 @@
 use Rattle.std.proofs.Common.{ℕ, ◌≡◌, ◌<◌, length, true}
 use Rattle.ca_view.specs.Linked.{IsPlaced, place_in}
-use Rattle.ca_sweep.specs.code.Kept.{is_marked}
+use Rattle.ca_sweep.specs.Tables.{is_marked}
 use Rattle.ca_sweep.proofs.clear.mark_placed.Given as goal
 
 abbrev pub invariant-loop-u : goal.invariant-loop-u

@@ -1,5 +1,5 @@
 use Rattle.std.proofs.Common.{ℕ, ◌≡◌, ◌<◌, length, false}
-use Rattle.ca_sweep.specs.code.Kept.{is_marked}
+use Rattle.ca_sweep.specs.Tables.{is_marked}
 use Rattle.ca_sweep.proofs.clear.unmark.Given as goal
 
 abbrev pub invariant-loop-u : goal.invariant-loop-u
