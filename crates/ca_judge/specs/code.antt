@@ -2,3 +2,4 @@
 pub mod Ends
 pub mod Outputs
 pub mod ChipJudge
+pub mod Attempt

@@ -16,9 +16,6 @@ use ca_guide::{Attempt, Choice, Guide};
 use ca_sim::Sim;
 use ca_view::View;
 
-// The most steps of an attempt.
-const MOST_STEPS: u32 = 8192;
-
 /// What an attempt is for: a defect, its rows and its support, and how many bits a way may have.
 #[derive(Drop)]
 pub struct Aimed<'a> {
@@ -29,13 +26,14 @@ pub struct Aimed<'a> {
     pub most: u32,
 }
 
-/// Looks for a pair that shows the defect. Whether it is in hand.
+/// Looks for a pair that shows the defect, in this many steps at most. Whether it is in hand.
 pub(crate) fn attempt<P: Choice>(
     aimed: &Aimed<'_>,
     confined: &mut Confined,
     sim: &mut Sim,
     choice: &mut P,
     numbers: &mut Vec<u16>,
+    steps: u32,
 ) -> bool
     requires aimed { IsAimed aimed.now.view.now.core aimed.now.view.now.lists aimed.now.guide.now
         aimed.now.defect }
@@ -51,7 +49,7 @@ pub(crate) fn attempt<P: Choice>(
     ensures kept { KeepsSeen sim.old sim.new }
     ensures room { vec_capacity numbers.old ≤ vec_capacity numbers.new }
 {
-    for _ in 0..MOST_STEPS {
+    for _ in 0..steps {
         if confined.is_shown() {
             return true;
         }

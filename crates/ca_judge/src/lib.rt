@@ -5,6 +5,7 @@ mod attempt;
 mod attempt_waves;
 mod attempts;
 mod chip_judge;
+mod exchange;
 mod guide_waves;
 mod outputs;
 mod shorten;

@@ -6,8 +6,10 @@ ghost use Rattle.ca_view.specs.Linked.{IsAim, place_in};
 ghost use Rattle.ca_sim.specs.Simulator.{KeepsSeen};
 ghost use Rattle.ca_confined.specs.Confined.{IsSimOf, KeepsAim};
 ghost use Rattle.ca_judge.specs.Attempt.{IsAimed, IsAimedAt, IsOnWay};
+ghost use Rattle.ca_judge.specs.code.Attempt.{IsReadyFor, KeepsAttempt};
 
 use crate::attempt::{Aimed, attempt, set};
+use crate::exchange::exchange;
 use arrayvec::ArrayVec;
 use ca_code::unpacked;
 use ca_confined::Confined;
@@ -15,14 +17,20 @@ use ca_flat::Token;
 use ca_guide::Choice;
 use ca_sim::Sim;
 
+// The most steps of an attempt.
+const MOST_STEPS: u32 = 8192;
+
 // The most bits that a way which is made shorter may have past the others.
 const MOST_MORE: u32 = 64;
 
-// The most bits that may be left of such a way.
-const MOST_NEEDED: usize = 256;
+// The most bits past those that a way may have, of which some are exchanged.
+const MOST_OVER: usize = 8;
 
-// The numbers of the tokens whose bits are needed, the last of the way first.
-type Needed = ArrayVec<u16, MOST_NEEDED>;
+/// The most bits that may be left of a way.
+pub(crate) const MOST_NEEDED: usize = 256;
+
+/// The numbers of the tokens whose bits are needed, the last of the way first.
+pub(crate) type Needed = ArrayVec<u16, MOST_NEEDED>;
 
 /// Looks for a pair that shows the defect. A way to it may have up to twice the bits at first, and is made
 /// shorter then. Whether the pair is in hand.
@@ -49,61 +57,86 @@ pub(crate) fn short_attempt<P: Choice>(
     ensures kept { KeepsSeen sim.old sim.new }
     ensures room { vec_capacity numbers.old ≤ vec_capacity numbers.new }
 {
-    let longer = Aimed {
-        view: aimed.view,
-        guide: aimed.guide,
-        rows: aimed.rows,
-        defect: aimed.defect,
-        most: aimed.most.saturating_add(aimed.most.min(MOST_MORE)),
-    };
-    let found = attempt(&longer, confined, sim, choice, numbers);
-    if found && numbers.len() <= aimed.most as usize {
+    let longer = lengthened(aimed);
+    if !attempt(&longer, confined, sim, choice, numbers, MOST_STEPS) {
+        numbers.clear();
+        return false;
+    }
+    if numbers.len() <= aimed.most as usize {
         return true;
     }
-    if found {
-        return shorten(aimed, confined, sim, numbers);
+    if shorten(aimed, confined, sim, choice, numbers) {
+        return true;
     }
     numbers.clear();
     false
 }
 
-// Makes the way to a pair that shows the defect shorter: bits that aren't needed are unset, and the others
-// are set anew, one by one. Whether a pair that shows it is in hand then.
-fn shorten(
+/// The same aim, where a way may have up to twice the bits.
+pub(crate) fn lengthened<'a>(aimed: &Aimed<'a>) -> Aimed<'a>
+    ensures view { result.view.now ≡ aimed.now.view.now }
+    ensures guide { result.guide.now ≡ aimed.now.guide.now }
+    ensures defect { result.defect ≡ aimed.now.defect }
+    ensures least { aimed.now.most ≤ result.most }
+    ensures most { result.most ≤ 2 * aimed.now.most }
+{
+    Aimed {
+        view: aimed.view,
+        guide: aimed.guide,
+        rows: aimed.rows,
+        defect: aimed.defect,
+        most: aimed.most.saturating_add(aimed.most.min(MOST_MORE)),
+    }
+}
+
+// Makes the way to a pair that shows the defect shorter: bits that aren't needed are unset, some of those
+// that are too many are exchanged, and what is left is set anew, one by one. Whether a pair that shows it is
+// in hand then.
+fn shorten<P: Choice>(
     aimed: &Aimed<'_>,
     confined: &mut Confined,
     sim: &mut Sim,
+    choice: &mut P,
     numbers: &mut Vec<u16>,
 ) -> bool
     requires aimed { IsAimed aimed.now.view.now.core aimed.now.view.now.lists aimed.now.guide.now
         aimed.now.defect }
-    requires at { IsAimedAt aimed.now.view.now.core aimed.now.defect confined.old }
+    requires ready { IsReadyFor aimed.now.view.now.core aimed.now.defect confined.old sim.old }
     requires shown { IsShown aimed.now.view.now.core aimed.now.defect confined.old.pair }
-    requires placed { IsAim confined.old.chip (place_in confined.old.places) confined.old.aim }
-    requires sim { IsSimOf confined.old.chip confined.old.places sim.old }
-    requires room { aimed.now.most ≤ vec_capacity numbers.old }
-    ensures way { IsOnWay aimed.now.view.now.core aimed.now.defect aimed.now.most confined.new
-        numbers.new.items }
+    requires room { 2 * aimed.now.most ≤ vec_capacity numbers.old }
+    ensures way { IsTrue result → IsOnWay aimed.now.view.now.core aimed.now.defect aimed.now.most
+        confined.new numbers.new.items }
     ensures shown { IsTrue result
         → IsShown aimed.now.view.now.core aimed.now.defect confined.new.pair }
-    ensures places { confined.new.places ≡ confined.old.places }
-    ensures kept { KeepsSeen sim.old sim.new }
+    ensures kept { KeepsAttempt confined.old confined.new sim.old sim.new }
     ensures room { vec_capacity numbers.old ≤ vec_capacity numbers.new }
 {
     let mut needed = Needed::new();
-    let are_few = unset_needless(aimed, confined, sim, numbers.as_slice(), &mut needed);
-    numbers.clear();
-    confined.begin(Some(aimed.defect), sim);
-    are_few && follow(aimed, confined, sim, needed.as_slice(), numbers)
+    let most = aimed.most as usize;
+    if !unset_needless(
+        aimed,
+        confined,
+        sim,
+        numbers.as_slice(),
+        most + MOST_OVER,
+        &mut needed,
+    ) {
+        return false;
+    }
+    if !exchange(aimed, confined, sim, choice, numbers, &mut needed) {
+        return false;
+    }
+    follow_anew(aimed, confined, sim, needed.as_slice(), numbers)
 }
 
-// Unsets the bits that aren't needed, beginning with the one that was set last, and notes the others. Whether
-// these are no more than a way may have.
-fn unset_needless(
+/// Unsets the bits that aren't needed, beginning with the one that was set last, and notes the others.
+/// Whether these are no more than `most`.
+pub(crate) fn unset_needless(
     aimed: &Aimed<'_>,
     confined: &mut Confined,
     sim: &mut Sim,
     numbers: &[u16],
+    most: usize,
     needed: &mut Needed,
 ) -> bool
     requires aimed { IsAimed aimed.now.view.now.core aimed.now.view.now.lists aimed.now.guide.now
@@ -117,7 +150,7 @@ fn unset_needless(
 {
     for number in numbers.iter().rev() {
         if is_needed(aimed, confined, sim, *number) {
-            if needed.is_full() || needed.len() >= aimed.most as usize {
+            if needed.is_full() || needed.len() >= most {
                 return false;
             }
             needed.push(*number);
@@ -152,6 +185,31 @@ fn is_needed(aimed: &Aimed<'_>, confined: &mut Confined, sim: &mut Sim, number: 
     }
     confined.set(bit, value, sim);
     true
+}
+
+/// Sets the bits of the tokens one by one, from the pair of which none is set, until the defect is shown.
+/// Whether it is.
+pub(crate) fn follow_anew(
+    aimed: &Aimed<'_>,
+    confined: &mut Confined,
+    sim: &mut Sim,
+    tokens: &[u16],
+    numbers: &mut Vec<u16>,
+) -> bool
+    requires aimed { IsAimed aimed.now.view.now.core aimed.now.view.now.lists aimed.now.guide.now
+        aimed.now.defect }
+    requires ready { IsReadyFor aimed.now.view.now.core aimed.now.defect confined.old sim.old }
+    requires room { aimed.now.most ≤ vec_capacity numbers.old }
+    ensures way { IsOnWay aimed.now.view.now.core aimed.now.defect aimed.now.most confined.new
+        numbers.new.items }
+    ensures shown { IsTrue result
+        → IsShown aimed.now.view.now.core aimed.now.defect confined.new.pair }
+    ensures kept { KeepsAttempt confined.old confined.new sim.old sim.new }
+    ensures room { vec_capacity numbers.old ≤ vec_capacity numbers.new }
+{
+    numbers.clear();
+    confined.begin(Some(aimed.defect), sim);
+    follow(aimed, confined, sim, tokens, numbers)
 }
 
 // Sets the bits of the tokens one by one, until the defect is shown. Whether it is.
