@@ -104,6 +104,7 @@ def strip(s):
     s=re.sub(r'\bDrop\s*\+\s*','',s)
     s=re.sub(r':\s*Drop\b','',s)
     s=s.replace('vec![in alloc;','rvec![alloc;').replace('vec![in self.alloc;','rvec![self.alloc;')
+    s=s.replace('.sort()?;','.sort();')
     s=re.sub(r'vec!\[\s*in\s+(\w+)\s*;',r'rvec![\1;',s)
     s=s.replace('use std::alloc::{AllocError, AllocFailed, Global};','use rstd::{AllocError, AllocFailed, Global};')
     s=s.replace('std::alloc::','rstd::')

@@ -58,8 +58,8 @@ fn generate_viewed<T: Watch>(
     made
 }
 
-/// The same over the chip's view and rows. Before any search all vectors of the chip are tried, unless they
-/// have too many bits.
+/// The same over the chip's view and rows. Before any search all vectors of the chip are tried, or those of
+/// its regions, if they have too many bits.
 pub fn generate_over<T: Watch>(
     alloc: Global,
     view: &View<'_>,

@@ -10,31 +10,15 @@ ghost use Rattle.ca_engine.specs.code.Untestable.{AreMarked};
 
 use ca_base::NoMemory;
 use ca_chip_defects::{ChipDefects, chip_defects};
-use ca_every_vector::{EveryVector, MOST_VECTOR_BITS};
+use ca_every_vector::EveryVector;
 use ca_flat::ExposingRows;
 use ca_flatten::{flat_is_well_formed, judge_size};
 use ca_view::View;
 use std::alloc::Global;
 
 /// For each defect of a chip's library instances whether it is known that no pair of the chip detects it: all
-/// vectors of the chip are tried. No marks where they have too many bits.
+/// vectors of the chip are tried, or those of its regions, if they have too many bits.
 pub(crate) fn untestable_marks<R: ExposingRows>(
-    alloc: Global,
-    view: &View<'_>,
-    rows: &R,
-) -> Result<Vec<bool>, NoMemory>
-    requires { R.chip rows.now ≡ view.now.core }
-    ensures { IfOk result (λ marks. (budget : ℕ)
-        → AreUntestable (task_of view.now.chip budget) marks.items) }
-{
-    if view.input_count() > MOST_VECTOR_BITS {
-        return Ok(Vec::new(alloc));
-    }
-    tried_marks(alloc, view, rows)
-}
-
-// The same, one mark for each defect.
-fn tried_marks<R: ExposingRows>(
     alloc: Global,
     view: &View<'_>,
     rows: &R,

@@ -26,6 +26,7 @@ use Rattle.ca_flips.specs.Flips.{IsOpposite, lasts_of}
 use Rattle.ca_flips.proofs.ReachLemmas.{reached_own}
 use Rattle.ca_every_vector.specs.Possible.{Has, HasFirsts, HasClear, HasLasts, HasAll}
 use Rattle.ca_every_vector.specs.Laws.{NoneExposes, ImpossibleIsUntestable}
+use Rattle.ca_sweep.specs.Seen.{IsClear}
 use Rattle.ca_sweep.proofs.UndetectedLemmas.{none_flipped, reached_good, undetected, unseen_is_undetected, rises}
 
 below_unless_opposite : (good known : Trit) → good ≢ X → (IsOpposite good known → ⊥) → IsBelow known good
@@ -68,22 +69,22 @@ module _ (chip : Chip) (rank : ℕ → ℕ) (defect : ChipDefect) (is : IsFlatCh
 
   -- for masks that have all possible rows, of which none exposes the defect
   module _ (firsts lasts : ℕ) (none : NoneExposes chip defect firsts lasts) where
-    abbrev first_pin : ℕ → Trit
+    abbrev pub first_pin : ℕ → Trit
     first_pin pin = (wave_of good (net_of chip defect.instance pin)).first
 
-    abbrev last_pin : ℕ → Trit
+    abbrev pub last_pin : ℕ → Trit
     last_pin pin = (wave_of good (net_of chip defect.instance pin)).last
 
-    abbrev a : List Trit
+    abbrev pub a : List Trit
     a = fill chip defect.instance first_pin
 
-    abbrev b : List Trit
+    abbrev pub b : List Trit
     b = fill chip defect.instance last_pin
 
-    again : (vector : List Trit) → IsDefiniteVector (cell_at chip defect.instance) vector → vector_of (inputs_at chip defect.instance) (number_of vector) ≡ vector
+    pub again : (vector : List Trit) → IsDefiniteVector (cell_at chip defect.instance) vector → vector_of (inputs_at chip defect.instance) (number_of vector) ≡ vector
     again vector definite = ap (λ n. vector_of n (number_of vector)) (sym definite.count) ∙ vector_again vector definite.definite
 
-    number_fits : (vector : List Trit) → IsDefiniteVector (cell_at chip defect.instance) vector → number_of vector < 2 ^ inputs_at chip defect.instance
+    pub number_fits : (vector : List Trit) → IsDefiniteVector (cell_at chip defect.instance) vector → number_of vector < 2 ^ inputs_at chip defect.instance
     number_fits vector definite = subst (λ n. number_of vector < 2 ^ n) definite.count (number_within vector)
 
     not_exposed : (x y : List Trit) → IsDefiniteVector (cell_at chip defect.instance) x → IsDefiniteVector (cell_at chip defect.instance) y
@@ -96,16 +97,16 @@ module _ (chip : Chip) (rank : ℕ → ℕ) (defect : ChipDefect) (is : IsFlatCh
               (subst (λ v. Exposes (cell_at chip defect.instance) defect.defect x v) (sym (again y y_definite)) exposes);
         }) first last
 
-    a_definite : IsDefiniteVector (cell_at chip defect.instance) a
+    pub a_definite : IsDefiniteVector (cell_at chip defect.instance) a
     a_definite = fill_definite chip defect.instance first_pin
 
-    b_definite : IsDefiniteVector (cell_at chip defect.instance) b
+    pub b_definite : IsDefiniteVector (cell_at chip defect.instance) b
     b_definite = fill_definite chip defect.instance last_pin
 
     over_firsts : IsOverFirsts good defect.instance a
     over_firsts = fill_above chip defect.instance first_pin
 
-    over_lasts : IsOverLasts good defect.instance b
+    pub over_lasts : IsOverLasts good defect.instance b
     over_lasts = fill_above chip defect.instance last_pin
 
     has_first : (partial : List Trit) → FlatWaves chip None partial → IsStateBelow partial pair → HasFirsts chip defect.instance firsts partial → Has firsts (number_of a)
@@ -121,30 +122,34 @@ module _ (chip : Chip) (rank : ℕ → ℕ) (defect : ChipDefect) (is : IsFlatCh
 
     module _ (first : Has firsts (number_of a)) (partial : List Trit) (low : FlatWaves chip None partial) (up : IsStateBelow partial pair) (net : ℕ) (observed : Contains chip.outputs net)
         (detects : DetectsAt chip defect pair net) where
-      by_clear : (values : List Trit) → ((waves : FlatWaves chip None partial) (net : ℕ) → net < length chip.nets → lasts_of waves net ≡ value_at values net)
-          → HasClear chip defect.instance lasts values → ⊥
-      by_clear values are_lasts of =
-          let clear = of.clear in
-          let last : Has lasts (number_of b) = of.has (number_of b) (number_fits b b_definite)
-          (subst (IsVectorOver chip defect.instance values) (sym (again b b_definite)) (record {
-            definite = b_definite;
-            over = λ pin k.
-                let within : net_of chip defect.instance pin < length chip.nets = is.chip_is.on_nets defect.instance pin known (omega arith) in
-                IsBelow-trans _ _ _ (rises chip rank defect is pair partial good faulty low up (value_at values) (are_lasts low) clear (net_of chip defect.instance pin) within) (over_lasts pin k);
-          })) in
-          undetected chip rank defect is pair partial good faulty low up (value_at values) (are_lasts low) clear
-          (λ output. value_at values (output_net chip defect.instance output)) (value_at values)
-          (none_flipped chip rank defect is pair partial good faulty low up (value_at values) (are_lasts low) clear)
+      -- the last vector is in the mask, and all is clear after the instance
+      pub by_clear_at : (values : ℕ → Trit) → ((waves : FlatWaves chip None partial) (net : ℕ) → net < length chip.nets → lasts_of waves net ≡ values net)
+          → IsClear chip values defect.instance → Has lasts (number_of b) → ⊥
+      by_clear_at values are_lasts clear last =
+          undetected chip rank defect is pair partial good faulty low up values (are_lasts low) clear
+          (λ output. values (output_net chip defect.instance output)) values
+          (none_flipped chip rank defect is pair partial good faulty low up values (are_lasts low) clear)
           (λ output k.
           let on : output_net chip defect.instance output < length chip.nets = is.chip_is.on_nets defect.instance (inputs_at chip defect.instance + output) known (omega arith) in
-          let same : value_at values (output_net chip defect.instance output) ≡ lasts_of good (output_net chip defect.instance output) =
-          reached_good chip rank defect is pair partial good faulty low up (value_at values) (are_lasts low) clear (output_net chip defect.instance output) on
+          let same : values (output_net chip defect.instance output) ≡ lasts_of good (output_net chip defect.instance output) =
+          reached_good chip rank defect is pair partial good faulty low up values (are_lasts low) clear (output_net chip defect.instance output) on
           (reached_own chip defect.instance output k) in
           below_unless_opposite _ _ (clear.definite.outputs output k)
           (λ opposite. not_exposed a b a_definite b_definite first last (clash_exposes a b a_definite b_definite over_firsts over_lasts output k
           (subst (λ v. Clash v (lasts_of faulty (output_net chip defect.instance output))) same opposite))))
           net (is.chip_is.observed net observed)
           (λ opposite. opposite_differs _ opposite.0 (sym opposite.1)) detects
+
+      by_clear : (values : List Trit) → ((waves : FlatWaves chip None partial) (net : ℕ) → net < length chip.nets → lasts_of waves net ≡ value_at values net)
+          → HasClear chip defect.instance lasts values → ⊥
+      by_clear values are_lasts of =
+          by_clear_at (value_at values) are_lasts of.clear (of.has (number_of b) (number_fits b b_definite)
+          (subst (IsVectorOver chip defect.instance values) (sym (again b b_definite)) (record {
+            definite = b_definite;
+            over = λ pin k.
+                let within : net_of chip defect.instance pin < length chip.nets = is.chip_is.on_nets defect.instance pin known (omega arith) in
+                IsBelow-trans _ _ _ (rises chip rank defect is pair partial good faulty low up (value_at values) (are_lasts low) of.clear (net_of chip defect.instance pin) within) (over_lasts pin k);
+          })))
 
       by_all : HasAll chip defect.instance lasts → ⊥
       by_all all = detected_is_exposed_lem chip rank defect pair net a b good is (is.chip_is.observed net observed) detects a_definite b_definite over_firsts over_lasts

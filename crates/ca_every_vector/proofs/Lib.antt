@@ -1,5 +1,13 @@
 pub mod LawLemmas
+pub mod InsideLemmas
 pub mod MaskLemmas
 pub mod VectorLemmas
 pub mod FindLemmas
+pub mod GivenLemmas
+pub mod SpreadLemmas
+pub mod RegionLemmas
+pub mod SureLemmas
 pub mod TableLemmas
+pub mod ListLemmas
+pub mod TriedLemmas
+pub mod NetLemmas

@@ -1,10 +1,11 @@
 -- Partial pairs of which one vector is set.
-use Rattle.std.proofs.Common.{◌≡◌, ℕ, zero, suc, ◌+◌, ◌-◌, ◌*◌, ◌/◌, ◌%◌, ◌^◌, ◌<◌, ◌≤◌, length, replicate, refl, sym, ◌∙◌, ap, arith, inl, inr}
+use Rattle.std.proofs.Common.{◌≡◌, ◌≢◌, ℕ, Bool, true, false, zero, suc, ◌+◌, ◌-◌, ◌*◌, ◌/◌, ◌%◌, ◌^◌, ◌<◌, ◌≤◌, length, replicate, refl, sym, ◌∙◌, ap, arith, inl, inr}
 use Rattle.std.proofs.Math.Nat.{mod-eq_of_lt, pow-le-pow_right}
 use Rattle.std.proofs.lemmas.Bool.{cases_lt}
 use Rattle.std.proofs.lemmas.List.{length-append, length-replicate, get_or_append_left, get_or-append-add, get_or-replicate, get_or_past}
 use Rattle.ca_net.specs.declared.trit.Trit.{Trit}
-use Rattle.ca_net.specs.declared.trit.Trit.TheVariants.{X}
+use Rattle.std.specs.Prelude.{if◌then◌else◌, ◌==◌}
+use Rattle.ca_net.specs.declared.trit.Trit.TheVariants.{Zero, One, X}
 use Rattle.ca_net.specs.State.{value_at}
 use Rattle.ca_defect.specs.Row.{digit_value, vector_of}
 use Rattle.ca_every_vector.specs.Vectors.{first_set, last_set}
@@ -22,7 +23,7 @@ digit_at (suc after) number (suc place) within =
     digit_at after number place (omega arith) ∙ ap (λ n. digit_value (number / 2 ^ n % 2)) (sym e)
 
 -- X wherever
-unknown : (count bit : ℕ) → value_at (replicate count X) bit ≡ X
+pub unknown : (count bit : ℕ) → value_at (replicate count X) bit ≡ X
 unknown count bit = elim (cases_lt bit count) [
   | inl low ↦ get_or-replicate count bit X X low
   | inr high ↦ get_or_past (replicate count X) bit X (let r = length-replicate count X in omega arith)
@@ -76,3 +77,12 @@ pub row_count : (bits : ℕ) → bits ≤ 6 → (1 * 2 ^ bits % 2 ^ 64 ≡ 2 ^ b
 row_count bits few =
     let powers : 2 ^ bits ≤ 2 ^ 6 = pow-le-pow_right (omega arith) few in
     let low : 2 ^ bits ≤ 64 = omega (arith, powers) in ((vector_count bits (omega arith)).0, low)
+
+choice_definite : (is : Bool) → (if is then Zero else One) ≢ X
+choice_definite true e = cc
+choice_definite false e = cc
+
+-- the digits of a vector are definite
+pub vector_definite : (count number place : ℕ) → place < count → value_at (vector_of count number) place ≢ X
+vector_definite count number place within e =
+    choice_definite (number / 2 ^ (count - 1 - place) % 2 == 0) (sym (digit_at count number place within) ∙ e)

@@ -1,3 +1,7 @@
 -- Words of the code: what its invariants and private contracts say. No public claim rests on them.
 pub mod Firsts
 pub mod Masks
+pub mod Spread
+pub mod Region
+pub mod Sure
+pub mod Inside

@@ -4,12 +4,22 @@
 
 mod every_vector;
 mod find;
+mod given;
+mod inside;
+mod known;
 mod laws;
+mod lists;
 mod masks;
+mod region;
+mod regions;
 mod rows;
+mod spread;
+mod supports;
+mod sure;
+mod tried;
 mod values;
 mod vectors;
 
 pub use every_vector::EveryVector;
-pub use laws::impossible_is_untestable;
+pub use laws::{impossible_is_untestable, outside_is_untestable};
 pub use vectors::MOST_VECTOR_BITS;

@@ -10,8 +10,8 @@ use ca_net::State;
 use ca_sweep::Sweep;
 use ca_view::View;
 
-// Adds rows to the mask of an instance.
-fn add(masks: &mut [u64], u: usize, rows: u64)
+/// Adds rows to the mask of an instance.
+pub(crate) fn add(masks: &mut [u64], u: usize, rows: u64)
     requires { u < length masks.old }
     ensures added { IsAdded u rows masks.new }
     ensures more { AreMore masks.old masks.new }

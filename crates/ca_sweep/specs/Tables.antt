@@ -1,4 +1,5 @@
--- What is found of a chip once: tables of the cells of its instances, its instances by their places, and marks.
+-- What is found of a chip once: tables of the cells of its instances, its instances by their places, and
+-- marks.
 use Rattle.std.specs.Prelude.{ℕ, ◌+◌, ◌≡◌, ◌<◌, Bool, true, false, List, length, slice_index_or, Option, None}
 use Rattle.std.specs.Prelude.{Some}
 use Rattle.ca_net.specs.declared.wave.Wave.{Wave}

@@ -208,7 +208,8 @@ fn mark(
     }
 }
 
-/// Marks the clear instances: those after them are static, and the values, one for each net, are definite there.
+/// Marks the clear instances: those after them are static, and the values, one for each net, are definite
+/// there.
 pub fn clear_instances(
     alloc: Global,
     chip: &View<'_>,

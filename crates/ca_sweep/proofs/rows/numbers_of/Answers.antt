@@ -1,4 +1,4 @@
-use Rattle.std.proofs.Common.{◌+◌, ◌∷◌, [], ap, length, ◌∙◌, arith, length-append}
+use Rattle.std.proofs.Common.{◌∷◌, [], ap, length, ◌∙◌, arith, length-append}
 use Rattle.ca_view.specs.Linked.{place_in}
 use Rattle.ca_view.specs.Places.{cell_number}
 use Rattle.ca_sweep.proofs.RowLemmas.{numbers_more}

@@ -1,4 +1,4 @@
-use Rattle.std.proofs.Common.{◌≡◌, ◌+◌, ap, arith, length, refl, subst, sym, ◌∙◌, true}
+use Rattle.std.proofs.Common.{◌≡◌, ◌+◌, ap, arith, length, refl, subst, sym, ◌∙◌}
 use Rattle.ca_flat.specs.Chip.{cell_at}
 use Rattle.ca_sweep.specs.Spans.{AreOfCell}
 use Rattle.ca_sweep.specs.code.Spans.{AreSpansTo, start_of}

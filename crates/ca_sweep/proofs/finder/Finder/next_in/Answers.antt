@@ -1,4 +1,4 @@
-use Rattle.std.proofs.Common.{◌≤◌, arith, refl, subst, sym, ◌∙◌, Some}
+use Rattle.std.proofs.Common.{◌≤◌, arith, refl, subst, sym, ◌∙◌}
 use Rattle.ca_sweep.specs.Seen.{IsLanedFor, Loaded}
 use Rattle.ca_sweep.specs.code.LanedFinder.{IsAtLane}
 use Rattle.ca_sweep.specs.Found.{IsUndetectedAt}

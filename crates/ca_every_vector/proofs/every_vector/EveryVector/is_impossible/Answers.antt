@@ -9,7 +9,7 @@ use Rattle.ca_flat.specs.Rows.{ListsExposingRows}
 use Rattle.ca_flat.specs.Detection.{IsUntestable}
 use Rattle.ca_view.specs.Linked.{place_in}
 use Rattle.ca_every_vector.specs.code.Masks.{mask_at, IsRowOut}
-use Rattle.ca_every_vector.proofs.every_vector.EveryVector.is_untestable.Goals as goal
+use Rattle.ca_every_vector.proofs.every_vector.EveryVector.is_impossible.Goals as goal
 
 pub returns : goal.returns
 returns c =
@@ -37,6 +37,6 @@ returns c =
       good_is = subst (λ x. IsWellFormed (flat x None)) (sym own) c.requires.good_is;
       faulty_is = subst (λ x. IsWellFormed (flat x (Some c.args.defect))) (sym own) c.requires.faulty_is;
     })
-    (c.self.invariant (subst (λ x. IsWellFormed (flat x None)) (sym own) c.requires.good_is) c.args.defect.instance (record { known = defect_is.known; placed = placed }) first_fits last_fits)
+    (c.self.invariant.first (subst (λ x. IsWellFormed (flat x None)) (sym own) c.requires.good_is) c.args.defect.instance (record { known = defect_is.known; placed = placed }) first_fits last_fits)
     (λ row exposing. All-contains (IsRowOut (mask_at c.self.inside.firsts.items c.args.defect.instance) (mask_at c.self.inside.lasts.items c.args.defect.instance)) c.args.rows.now row out
     ((lists row).1 exposing)))

@@ -13,7 +13,7 @@ use Rattle.ca_engine.specs.ChipDefects.{chip_defects}
 use Rattle.ca_engine.specs.ChipTask.{task_of}
 use Rattle.ca_engine.proofs.CoreLemmas.{core_can_be_judged}
 use Rattle.ca_engine.proofs.UntestableLemmas.{marks_are}
-use Rattle.ca_engine.proofs.untestable.tried_marks.Goals as goal
+use Rattle.ca_engine.proofs.untestable.untestable_marks.Goals as goal
 
 pub marks_of-requires-clause-table : goal.marks_of-requires-clause-table
 marks_of-requires-clause-table g c = c.in_ok-table.ensures ∙ sym c.requires
