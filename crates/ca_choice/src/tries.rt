@@ -6,10 +6,10 @@ use ca_guide::Attempt;
 use std::alloc::Global;
 
 // How often an attempt may turn back.
-const MOST_TURNS: u32 = 100;
+const MOST_TURNS: u32 = 400;
 
 // How many attempts are left out at most after one that came to nothing.
-const MOST_WAITS: u32 = 15;
+const MOST_WAITS: u32 = 3;
 
 // A bit that is set, and whether its other value was tried before.
 #[derive(Clone, Copy)]

@@ -3,6 +3,7 @@ pub mod InsideLemmas
 pub mod MaskLemmas
 pub mod VectorLemmas
 pub mod FindLemmas
+pub mod FixedLemmas
 pub mod GivenLemmas
 pub mod SpreadLemmas
 pub mod RegionLemmas

@@ -16,12 +16,15 @@ use Rattle.ca_defect.specs.Row.{vector_of}
 use Rattle.ca_defect.proofs.NumberLemmas.{number_of, number_within, vector_again}
 use Rattle.ca_flat.specs.Codes.{bit_trit}
 use Rattle.ca_flat.specs.Detection.{trits_of}
-use Rattle.ca_flat.specs.Pair.{bit_count, net_value}
+use Rattle.ca_flat.specs.Pair.{bit_count, input_value, net_value}
+use Rattle.ca_net.specs.Trit.{IsBelow}
 use Rattle.ca_flips.specs.Known.{AreKnownLasts}
 use Rattle.ca_view.specs.Linked.{IsLinked, IsPinned}
 use Rattle.ca_sim.proofs.Feeding.{wave_of_input}
 use Rattle.ca_every_vector.specs.code.Region.{AreKnownWithin, AreNetsIn, AreSameOutside, HaveDigits, IsForNumber, IsGivenOrUnknown, IsInputNet, IsOutIn, IsPartNet}
 use Rattle.ca_every_vector.specs.code.Region.{input_at}
+use Rattle.ca_every_vector.specs.code.Fixed.{fixed_value}
+use Rattle.ca_every_vector.proofs.FixedLemmas.{fixed_below, unfixed_output}
 use Rattle.ca_every_vector.proofs.VectorLemmas.{digit_at}
 
 module _ (chip : Chip) (rank number_of : ℕ → ℕ) (linked : IsLinked chip rank number_of) (pinned : IsPinned chip) (inputs parts : List ℕ) (number : ℕ) (values : List Trit)
@@ -46,7 +49,8 @@ module _ (chip : Chip) (rank number_of : ℕ → ℕ) (linked : IsLinked chip ra
   pub known_of_checks : (pair : List Trit) → IsForNumber chip inputs number pair → AreKnownLasts chip pair (value_at values)
   known_of_checks pair for = record {
     inputs = λ net low kind. elim (within net) [
-      | inl unknown ↦ inl unknown
+      | inl fixed ↦ subst (λ value. IsBelow value (net_value chip pair (length chip.inputs) net)) (sym fixed)
+          (fixed_below chip.constants (input_value chip.inputs pair (length chip.inputs) net) net)
       | inr (inl input) ↦
           let i = input_at inputs input.place in
           let bit : net_value chip pair (length chip.inputs) (slice_index chip.inputs i) ≡ value_at pair (length chip.inputs + i) =
@@ -56,7 +60,8 @@ module _ (chip : Chip) (rank number_of : ℕ → ℕ) (linked : IsLinked chip ra
       | inr (inr part) ↦ absurd (part_no_input net part kind)
     ];
     outputs = λ u output known low definite. elim (within (output_net chip u output)) [
-      | inl unknown ↦ absurd (definite unknown)
+      | inl fixed ↦ absurd (definite (fixed ∙ unfixed_output chip (output_net chip u output) pinned
+          (is.drives (output_net chip u output) (record { instance = u; output = output; known = known; within = low; on = refl }))))
       | inr (inl input) ↦ absurd (input_no_driver (output_net chip u output) u output known low refl input)
       | inr (inr part) ↦
           let same : part.part ≡ u = (is.one_driver (output_net chip u output) (record { instance = part.part; output = part.output; known = part.known; within = part.within; on = part.on })
@@ -74,7 +79,7 @@ pub within_put : (chip : Chip) (inputs parts : List ℕ) (old new : List Trit) (
 within_put chip inputs parts old new net value within is put n = elim (cases_eq n net) [
   | inl e ↦ inr (subst (λ k. IsInputNet chip inputs k ⊎ IsPartNet chip parts k) (sym e) is)
   | inr other ↦ elim (within n) [
-    | inl unknown ↦ inl (ap (λ list. value_at list n) put ∙ get_or-set_other old net n value X other ∙ unknown)
+    | inl fixed ↦ inl (ap (λ list. value_at list n) put ∙ get_or-set_other old net n value X other ∙ fixed)
     | inr at ↦ inr at
   ]
 ]
@@ -82,11 +87,11 @@ within_put chip inputs parts old new net value within is put n = elim (cases_eq 
 pub put_room : (old new : List Trit) (net count : ℕ) (value : Trit) → length old ≡ count → new ≡ slice_set old net value → length new ≡ count
 put_room old new net count value room put = ap length put ∙ length-set old net value ∙ room
 
--- nets that are known are listed
+-- nets that are known otherwise than by constants are listed
 pub known_listed : (chip : Chip) (inputs parts nets : List ℕ) (values : List Trit) → AreKnownWithin chip inputs parts values → AreNetsIn chip inputs parts nets
-    → (net : ℕ) → (value_at values net ≡ X) ⊎ Contains nets net
+    → (net : ℕ) → (value_at values net ≡ fixed_value chip net) ⊎ Contains nets net
 known_listed chip inputs parts nets values within listed net = elim (within net) [
-  | inl unknown ↦ inl unknown
+  | inl fixed ↦ inl fixed
   | inr (inl input) ↦ inr (subst (Contains nets) input.on (listed.inputs_in input.place input.within))
   | inr (inr part) ↦ inr (subst (Contains nets) part.on (All-contains (IsOutIn chip nets) parts part.part listed.parts_in part.has part.output part.within))
 ]
@@ -96,9 +101,9 @@ pub same_outside : (chip : Chip) (inputs parts nets : List ℕ) (values others :
     → AreNetsIn chip inputs parts nets → AreSameOutside values others nets
 same_outside chip inputs parts nets values others one two listed net = elim (known_listed chip inputs parts nets values one listed net) [
   | inr has ↦ inr has
-  | inl unknown ↦ elim (known_listed chip inputs parts nets others two listed net) [
+  | inl fixed ↦ elim (known_listed chip inputs parts nets others two listed net) [
     | inr has ↦ inr has
-    | inl same ↦ inl (same ∙ sym unknown)
+    | inl same ↦ inl (same ∙ sym fixed)
   ]
 ]
 

@@ -3,15 +3,15 @@ use Rattle.std.proofs.Common.{◌≡◌, ◌≢◌, ℕ, Bool, true, false, get_
 use Rattle.ca_net.specs.declared.trit.Trit.{Trit}
 use Rattle.ca_net.specs.declared.trit.Trit.TheVariants.{X}
 use Rattle.ca_net.specs.Circuit.{IsWellFormed}
-use Rattle.ca_flat.specs.Chip.{Chip, IsChip, cell_at, inputs_at, outputs_at, net_of, output_net, count_of}
-use Rattle.std.specs.Prelude.{slice_index}
+use Rattle.ca_flat.specs.Chip.{Chip, Constant, IsChip, cell_at, inputs_at, outputs_at, net_of, output_net, count_of}
+use Rattle.std.specs.Prelude.{slice_index, slice_get, Some}
 use Rattle.std.proofs.Common.{slice_set}
 use Rattle.std.proofs.lemmas.Bool.{cases_eq}
 use Rattle.std.proofs.lemmas.List.{get_or-map, get_or-set_other}
 use Rattle.ca_net.specs.declared.wave.Wave.{Wave}
 use Rattle.ca_net.specs.State.{value_at}
 use Rattle.ca_flat.specs.Codes.{bit_trit}
-use Rattle.ca_flat.specs.Pair.{net_value}
+use Rattle.ca_flat.specs.Pair.{input_value, net_value}
 use Rattle.ca_flat.proofs.InstanceWaves.{input_wave}
 use Rattle.ca_view.specs.Linked.{IsLinked, IsPinned}
 use Rattle.ca_sim.proofs.Feeding.{wave_of_input}
@@ -25,6 +25,8 @@ use Rattle.ca_flips.proofs.VectorLemmas.{vector_definite}
 use Rattle.ca_sweep.specs.Seen.{IsClear}
 use Rattle.ca_every_vector.specs.Inside.{IsSureAfter}
 use Rattle.ca_every_vector.specs.code.Sure.{AreSure, IsSure}
+use Rattle.ca_every_vector.specs.code.Fixed.{fixed_value}
+use Rattle.ca_every_vector.proofs.FixedLemmas.{fixed_below}
 use Rattle.ca_every_vector.proofs.VectorLemmas.{unknown}
 
 -- the output nets of a static instance whose input nets are sure
@@ -53,6 +55,19 @@ sure_input chip place_of number_of linked pinned formed input low pair count goo
     ap (λ (w : Wave). w.last) (wave_of_input chip place_of number_of linked pinned input low (trits_of pair)) in
     bit_definite (get_or pair (length chip.inputs + input) false)
     (sym (get_or-map bit_trit pair (length chip.inputs + input) false X (let long = count in omega arith)) ∙ sym bit ∙ sym last ∙ e)
+
+-- the net of a constant with a definite value
+pub sure_constant : (chip : Chip) (place_of number_of : ℕ → ℕ) → IsLinked chip place_of number_of → IsPinned chip → IsWellFormed (flat chip None) → (k : ℕ) (constant : Constant)
+    → slice_get chip.constants k ≡ Some constant → fixed_value chip constant.net ≢ X → IsSure chip constant.net
+sure_constant chip place_of number_of linked pinned formed k constant there definite pair count good e =
+    let net = constant.net in
+    let flattened : IsFlattened chip place_of None = record { chip_is = linked.is_chip; defect_is = tt; formed = formed } in
+    let last : lasts_of good net ≡ net_value chip (trits_of pair) (length chip.inputs) net =
+    ap (λ (w : Wave). w.last) (input_wave chip place_of None flattened (trits_of pair) good net (pinned.constant_within k constant there) (pinned.constant_kind k constant there)) in
+    elim (fixed_below chip.constants (input_value chip.inputs (trits_of pair) (length chip.inputs) net) net) [
+      | inl unknown ↦ definite unknown
+      | inr same ↦ definite (same ∙ sym last ∙ e)
+    ]
 
 -- a sure net is given a value
 pub sure_put : (chip : Chip) (old new : List Trit) (net : ℕ) (value : Trit) → AreSure chip old → (IsWellFormed (flat chip None) → IsSure chip net) → new ≡ slice_set old net value

@@ -13,6 +13,7 @@ ghost use Rattle.ca_every_vector.specs.Possible.{Has};
 ghost use Rattle.ca_every_vector.specs.code.Masks.{HaveFirsts, HaveLasts, IsRowOut};
 
 use crate::find::{find_firsts, find_lasts};
+use crate::fixed::fixed_values;
 use crate::inside::find_inside;
 use crate::laws::{impossible_is_untestable, outside_is_untestable};
 use crate::sure::sure_instances;
@@ -136,8 +137,15 @@ fn by_regions<'a>(alloc: Global, chip: &'a View<'a>) -> Result<EveryVector<'a>, 
 {
     let tables = tables_of(alloc, chip)?;
     let order = order_of(alloc, chip)?;
-    let sure = sure_instances(alloc, chip, &tables, order.as_slice())?;
-    let inside = find_inside(alloc, chip, tables.as_slice(), order.as_slice())?;
+    let fixed = fixed_values(alloc, chip)?;
+    let sure = sure_instances(alloc, chip, &tables, order.as_slice(), fixed.as_slice())?;
+    let inside = find_inside(
+        alloc,
+        chip,
+        tables.as_slice(),
+        order.as_slice(),
+        fixed.as_slice(),
+    )?;
     Ok(EveryVector {
         chip,
         firsts: Vec::new(alloc),

@@ -1,13 +1,13 @@
 //! The last vectors that matter at the instances of a chip's regions.
 
-ghost use Rattle.std.specs.Prelude.{◌≡◌, ◌<◌, length, replicate, IfOk, OnOk};
+ghost use Rattle.std.specs.Prelude.{◌≡◌, ◌<◌, length, IfOk, OnOk};
 ghost use Rattle.std.specs.List.{All};
-ghost use Rattle.ca_net.specs.declared.trit.Trit.TheVariants.{X};
 ghost use Rattle.ca_flat.specs.Chip.{count_of};
 ghost use Rattle.ca_view.specs.Linked.{IsPlaced, place_in};
 ghost use Rattle.ca_view.specs.Places.{cell_number};
 ghost use Rattle.ca_sweep.specs.Tables.{AreTables, AreMarks};
 ghost use Rattle.ca_every_vector.specs.code.Inside.{AreTriedMarks, IsKept};
+ghost use Rattle.ca_every_vector.specs.code.Fixed.{AreFixed};
 ghost use Rattle.ca_every_vector.specs.code.Region.{IsRegion, IsTried};
 
 use crate::lists::entry;
@@ -20,13 +20,14 @@ use ca_view::View;
 use std::alloc::Global;
 
 /// For each instance the vectors that may come last at its input pins where a flip of its outputs leaves what
-/// is known, and whether all vectors were tried for it. The rest is room: values of nets, those with flips,
-/// the nets that change and the instances that are evaluated for one.
+/// is known, and whether all vectors were tried for it; and for each net the value that a constant gives it.
+/// The rest is room: values of nets, those with flips, the nets that change and the instances that are
+/// evaluated for one.
 #[derive(Drop)]
 pub(crate) struct Inside {
     pub(crate) masks: Vec<u64>,
     pub(crate) tried: Vec<bool>,
-    unknown: Vec<Trit>,
+    fixed: Vec<Trit>,
     values: Vec<Trit>,
     others: Vec<Trit>,
     changed: Vec<u32>,
@@ -37,15 +38,16 @@ pub(crate) struct Inside {
 const MOST_TIMES: usize = 16;
 
 // Takes memory. Nothing was tried.
-fn reserve(alloc: Global, chip: &View<'_>) -> Result<Inside, NoMemory>
+fn reserve(alloc: Global, chip: &View<'_>, fixed: &[Trit]) -> Result<Inside, NoMemory>
+    requires { AreFixed chip.now.core fixed.now }
     ensures { IfOk result (IsKept chip.now.core) }
 {
     Ok(Inside {
         masks: vec![in alloc; 0u64; chip.instances()]?,
         tried: vec![in alloc; false; chip.instances()]?,
-        unknown: vec![in alloc; Trit::X; chip.nets()]?,
-        values: vec![in alloc; Trit::X; chip.nets()]?,
-        others: vec![in alloc; Trit::X; chip.nets()]?,
+        fixed: fixed.to_vec(alloc)?,
+        values: fixed.to_vec(alloc)?,
+        others: fixed.to_vec(alloc)?,
         changed: Vec::new(alloc),
         touched: Vec::new(alloc),
     })
@@ -81,7 +83,7 @@ fn add_region(
         chip,
         tables,
         region,
-        inside.unknown.as_slice(),
+        inside.fixed.as_slice(),
         &mut inside.values,
         &mut inside.others,
         &mut inside.changed,
@@ -139,11 +141,14 @@ pub(crate) fn find_inside(
     chip: &View<'_>,
     tables: &[Option<LastTable>],
     order: &[Option<usize>],
+    fixed: &[Trit],
 ) -> Result<Inside, NoMemory>
-    requires { AreTables chip.now.core (place_in chip.now.ranks) (cell_number chip.now.chip) tables.now }
+    requires tables { AreTables chip.now.core (place_in chip.now.ranks) (cell_number chip.now.chip)
+        tables.now }
+    requires fixed { AreFixed chip.now.core fixed.now }
     ensures { IfOk result (IsKept chip.now.core) }
 {
-    let mut inside = reserve(alloc, chip)?;
+    let mut inside = reserve(alloc, chip, fixed)?;
     let mut regions = Regions::new(alloc, chip, order)?;
     let mut left = chip.instances().saturating_mul(MOST_TIMES);
     for place in 0..order.len() {

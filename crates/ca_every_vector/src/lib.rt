@@ -4,6 +4,7 @@
 
 mod every_vector;
 mod find;
+mod fixed;
 mod given;
 mod inside;
 mod known;

@@ -89,6 +89,9 @@ impl Supports {
         for input in 0..chip.input_count() {
             supports.begin(chip.inputs().get(input), input);
         }
+        for k in 0..chip.constant_count() {
+            supports.fix(chip.constant(k).net);
+        }
         for place in 0..order.len() {
             if let Some(u) = order[place] {
                 supports.pass(chip, u);
@@ -106,6 +109,13 @@ impl Supports {
                     self.nets[*net as usize] = Some(own);
                 }
             }
+        }
+    }
+
+    // The net of a constant hangs on no input.
+    fn fix(&mut self, net: usize) {
+        if net < self.nets.len() {
+            self.nets[net] = Some(Support::none());
         }
     }
 

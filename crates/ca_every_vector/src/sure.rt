@@ -8,8 +8,10 @@ ghost use Rattle.ca_view.specs.Linked.{IsPlaced, place_in};
 ghost use Rattle.ca_view.specs.Places.{cell_number};
 ghost use Rattle.ca_sweep.specs.Tables.{AreTables, IsOrder, AreMarks};
 ghost use Rattle.ca_every_vector.specs.Inside.{IsSureAfter};
+ghost use Rattle.ca_every_vector.specs.code.Fixed.{AreFixed};
 ghost use Rattle.ca_every_vector.specs.code.Sure.{AreSure, AreSurePins};
 
+use crate::lists::at;
 use ca_base::NoMemory;
 use ca_net::{State, Trit};
 use ca_sweep::{Tables, clear_instances};
@@ -26,6 +28,23 @@ fn mark_inputs(chip: &View<'_>, values: &mut State)
     chip.linked();
     for input in 0..chip.input_count() {
         values.set(chip.input(input), Trit::Zero);
+    }
+}
+
+// So are those of constants with a definite value.
+fn mark_fixed(chip: &View<'_>, fixed: &[Trit], values: &mut State)
+    requires fixed { AreFixed chip.now.core fixed.now }
+    requires nets { length values.old ≡ length chip.now.core.nets }
+    requires sure { AreSure chip.now.core values.old }
+    ensures nets { length values.new ≡ length chip.now.core.nets }
+    ensures sure { AreSure chip.now.core values.new }
+{
+    chip.linked();
+    for k in 0..chip.constant_count() {
+        let net = chip.constant(k).net;
+        if at(fixed, net) != Trit::X {
+            values.set(net, Trit::Zero);
+        }
     }
 }
 
@@ -99,16 +118,24 @@ fn mark_outputs(chip: &View<'_>, w: usize, values: &mut State)
 ghost use Rattle.ca_every_vector.specs.code.Sure.{AreOutputsSure};
 
 // The sure nets have a definite value, whichever it is.
-fn find_sure(chip: &View<'_>, tables: &Tables, order: &[Option<usize>], values: &mut State)
+fn find_sure(
+    chip: &View<'_>,
+    tables: &Tables,
+    order: &[Option<usize>],
+    fixed: &[Trit],
+    values: &mut State,
+)
     requires tables { AreTables chip.now.core (place_in chip.now.ranks) (cell_number chip.now.chip)
         tables.now.items }
     requires order { IsOrder chip.now.core (place_in chip.now.ranks) order.now }
+    requires fixed { AreFixed chip.now.core fixed.now }
     requires nets { length values.old ≡ length chip.now.core.nets }
     requires sure { AreSure chip.now.core values.old }
     ensures nets { length values.new ≡ length chip.now.core.nets }
     ensures sure { AreSure chip.now.core values.new }
 {
     mark_inputs(chip, values);
+    mark_fixed(chip, fixed, values);
     for place in 0..order.len() {
         if let Some(w) = order[place] {
             pass(chip, tables, w, values);
@@ -123,15 +150,17 @@ pub(crate) fn sure_instances(
     chip: &View<'_>,
     tables: &Tables,
     order: &[Option<usize>],
+    fixed: &[Trit],
 ) -> Result<Vec<bool>, NoMemory>
     requires tables { AreTables chip.now.core (place_in chip.now.ranks) (cell_number chip.now.chip)
         tables.now.items }
     requires order { IsOrder chip.now.core (place_in chip.now.ranks) order.now }
+    requires fixed { AreFixed chip.now.core fixed.now }
     ensures { IfOk result (λ marks. IsWellFormed (flat chip.now.core None)
         → AreMarks chip.now.core (IsSureAfter chip.now.core) marks.items) }
 {
     let mut values = State::unknown(alloc, chip.nets())?;
-    find_sure(chip, tables, order, &mut values);
+    find_sure(chip, tables, order, fixed, &mut values);
     let marks = clear_instances(alloc, chip, tables, order, &values)?;
     Ok(marks)
 }

@@ -1,13 +1,13 @@
 //! Which last vectors matter at the instances of a region: all vectors of its inputs are tried.
 
-ghost use Rattle.std.specs.Prelude.{◌≡◌, ◌<◌, length, replicate, IfOk, OnOk};
+ghost use Rattle.std.specs.Prelude.{◌≡◌, ◌<◌, length, IfOk, OnOk};
 ghost use Rattle.std.specs.List.{All};
-ghost use Rattle.ca_net.specs.declared.trit.Trit.TheVariants.{X};
 ghost use Rattle.ca_net.specs.State.{value_at};
 ghost use Rattle.ca_flat.specs.Chip.{count_of};
 ghost use Rattle.ca_view.specs.Linked.{IsPlaced, place_in};
 ghost use Rattle.ca_view.specs.Places.{cell_number};
 ghost use Rattle.ca_sweep.specs.Tables.{AreTables};
+ghost use Rattle.ca_every_vector.specs.code.Fixed.{AreFixed};
 ghost use Rattle.ca_every_vector.specs.code.Masks.{AreMore, mask_at};
 ghost use Rattle.ca_every_vector.specs.code.Region.{AreKnownWithin, HasLastsAt, IsRegion, IsTried};
 ghost use Rattle.ca_every_vector.specs.code.Region.{IsTriedAt, IsTriedTo, IsFull};
@@ -178,13 +178,13 @@ fn try_all(
     Ok(())
 }
 
-/// Tries all vectors of the inputs of a region. The values of nets and those with flips are X before and
-/// after.
+/// Tries all vectors of the inputs of a region. The values of nets and those with flips are those that
+/// constants give before and after.
 pub(crate) fn try_region(
     chip: &View<'_>,
     tables: &[Option<LastTable>],
     region: &Region,
-    unknown: &[Trit],
+    fixed: &[Trit],
     values: &mut [Trit],
     others: &mut [Trit],
     changed: &mut Vec<u32>,
@@ -194,19 +194,19 @@ pub(crate) fn try_region(
     requires region { IsRegion chip.now.core (place_in chip.now.ranks) region.now }
     requires tables { AreTables chip.now.core (place_in chip.now.ranks) (cell_number chip.now.chip)
         tables.now }
-    requires unknown { unknown.now ≡ replicate (length chip.now.core.nets) X }
-    requires values { values.old ≡ unknown.now }
-    requires others { others.old ≡ unknown.now }
+    requires fixed { AreFixed chip.now.core fixed.now }
+    requires values { values.old ≡ fixed.now }
+    requires others { others.old ≡ fixed.now }
     requires room { length masks.old ≡ count_of chip.now.core }
     ensures tried { OnOk result (All (IsTried chip.now.core masks.new) region.now.fresh.items) }
     ensures more { OnOk result (AreMore masks.old masks.new) }
-    ensures values { OnOk result (values.new ≡ unknown.now) }
-    ensures others { OnOk result (others.new ≡ unknown.now) }
+    ensures values { OnOk result (values.new ≡ fixed.now) }
+    ensures others { OnOk result (others.new ≡ fixed.now) }
 {
     try_all(
         chip, tables, region, values, others, changed, touched, masks,
     )?;
-    restore(values, unknown, region.nets.as_slice());
-    restore(others, unknown, region.nets.as_slice());
+    restore(values, fixed, region.nets.as_slice());
+    restore(others, fixed, region.nets.as_slice());
     Ok(())
 }

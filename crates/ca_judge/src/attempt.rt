@@ -130,8 +130,8 @@ pub(crate) fn set(
     confined.set(bit, Some(value), sim);
 }
 
-// Unsets the bit that was set last. Whether there is one.
-fn take_back(
+/// Unsets the bit that was set last. Whether there is one.
+pub(crate) fn take_back(
     aimed: &Aimed<'_>,
     confined: &mut Confined,
     sim: &mut Sim,

@@ -6,6 +6,7 @@ mod attempt_waves;
 mod attempts;
 mod chip_judge;
 mod exchange;
+mod further;
 mod guide_waves;
 mod outputs;
 mod shorten;

@@ -10,6 +10,7 @@ ghost use Rattle.ca_judge.specs.code.Attempt.{IsReadyFor, KeepsAttempt};
 
 use crate::attempt::{Aimed, attempt, set};
 use crate::exchange::exchange;
+use crate::further::set_further;
 use arrayvec::ArrayVec;
 use ca_code::unpacked;
 use ca_confined::Confined;
@@ -26,6 +27,9 @@ const MOST_MORE: u32 = 64;
 // The most bits past those that a way may have, of which some are exchanged.
 const MOST_OVER: usize = 8;
 
+// Further bits are set where a way has fewer than this part of the bits that it may have.
+const FEW_PART: usize = 4;
+
 /// The most bits that may be left of a way.
 pub(crate) const MOST_NEEDED: usize = 256;
 
@@ -33,7 +37,7 @@ pub(crate) const MOST_NEEDED: usize = 256;
 pub(crate) type Needed = ArrayVec<u16, MOST_NEEDED>;
 
 /// Looks for a pair that shows the defect. A way to it may have up to twice the bits at first, and is made
-/// shorter then. Whether the pair is in hand.
+/// shorter then; where it has few, further bits are set. Whether the pair is in hand.
 pub(crate) fn short_attempt<P: Choice>(
     aimed: &Aimed<'_>,
     confined: &mut Confined,
@@ -62,14 +66,14 @@ pub(crate) fn short_attempt<P: Choice>(
         numbers.clear();
         return false;
     }
-    if numbers.len() <= aimed.most as usize {
+    if numbers.len() > aimed.most as usize && !shorten(aimed, confined, sim, choice, numbers) {
+        numbers.clear();
+        return false;
+    }
+    if numbers.len() >= aimed.most as usize / FEW_PART {
         return true;
     }
-    if shorten(aimed, confined, sim, choice, numbers) {
-        return true;
-    }
-    numbers.clear();
-    false
+    set_further(aimed, confined, sim, numbers)
 }
 
 /// The same aim, where a way may have up to twice the bits.
@@ -245,8 +249,8 @@ fn follow(
     confined.is_shown()
 }
 
-// Sets the bit of a token, if it may be set. Whether it was.
-fn follow_token(
+/// Sets the bit of a token, if it may be set. Whether it was.
+pub(crate) fn follow_token(
     aimed: &Aimed<'_>,
     confined: &mut Confined,
     sim: &mut Sim,

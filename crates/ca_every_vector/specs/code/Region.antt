@@ -7,6 +7,7 @@ use Rattle.ca_net.specs.declared.trit.Trit.TheVariants.{X}
 use Rattle.ca_net.specs.State.{value_at}
 use Rattle.ca_defect.specs.Row.{digit_value}
 use Rattle.ca_flat.specs.Chip.{Chip, outputs_at, output_net, count_of}
+use Rattle.ca_every_vector.specs.code.Fixed.{fixed_value}
 use Rattle.ca_view.specs.Linked.{IsPlaced}
 use Rattle.ca_every_vector.specs.declared.vectors.TheConstants.{MOST_VECTOR_BITS}
 use Rattle.ca_every_vector.specs.declared.regions.Region.{Region}
@@ -49,10 +50,11 @@ pub record IsPartNet (chip : Chip) (parts : List ℕ) (net : ℕ) : Type 0 where
   pub within : output < outputs_at chip part
   pub on : output_net chip part output ≡ net
 
--- values are known there alone
+-- elsewhere values are known where a constant gives them alone
 abbrev pub AreKnownWithin : Chip → List ℕ → List ℕ → List Trit → Type 0
 AreKnownWithin chip inputs parts values =
-    (net : ℕ) → (value_at values net ≡ X) ⊎ (IsInputNet chip inputs net ⊎ IsPartNet chip parts net)
+    (net : ℕ) → (value_at values net ≡ fixed_value chip net)
+    ⊎ (IsInputNet chip inputs net ⊎ IsPartNet chip parts net)
 
 -- the nets of the first ones of these chip inputs have the digits of the number
 abbrev pub HaveDigitsTo : Chip → List ℕ → ℕ → List Trit → ℕ → Type 0
