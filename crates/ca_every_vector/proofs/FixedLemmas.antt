@@ -1,6 +1,6 @@
 -- The values that constants give nets.
 use Rattle.std.specs.Prelude.{if◌then◌else◌, ◌==◌, slice_get, Some}
-use Rattle.std.proofs.Common.{◌≡◌, ◌≢◌, ℕ, zero, suc, Bool, true, false, ◌<◌, ◌⊎◌, List, [], ◌∷◌, length, drop, replicate, cond, inl, inr, refl, sym, ◌∙◌, ap, subst, arith, slice_set}
+use Rattle.std.proofs.Common.{◌≡◌, ℕ, zero, suc, Bool, true, false, ◌<◌, List, [], ◌∷◌, length, drop, replicate, inl, inr, refl, sym, ◌∙◌, ap, subst, arith, slice_set}
 use Rattle.std.proofs.lemmas.Bool.{eqb-true, eqb-false}
 use Rattle.std.proofs.Math.Seq.{drop-cons}
 use Rattle.std.proofs.lemmas.List.{get_or-set_same, get_or-set_other, length-replicate, length-set}
@@ -62,11 +62,11 @@ fixed_below (constant ∷ constants) other net = at (net == constant.net) (fixed
 unfixed : (constants : List Constant) (net : ℕ) → ((k : ℕ) (constant : Constant) → slice_get constants k ≡ Some constant → constant.net ≡ net → ⊥)
     → constant_value constants X net ≡ X
 unfixed [] net none = refl
-unfixed (constant ∷ constants) net none = at (net == constant.net) refl
+unfixed (constant ∷ constants) net none = at (net == constant.net) refl (unfixed constants net (λ k other there. none (suc k) other there))
   where
-    at : (b : Bool) → (net == constant.net) ≡ b → (if b then constant.value else constant_value constants X net) ≡ X
-    at true e = absurd (none 0 constant refl (sym (eqb-true net constant.net e)))
-    at false e = unfixed constants net (λ k other there. none (suc k) other there)
+    at : (b : Bool) → (net == constant.net) ≡ b → constant_value constants X net ≡ X → (if b then constant.value else constant_value constants X net) ≡ X
+    at true e later = absurd (none zero constant refl (sym (eqb-true net constant.net e)))
+    at false e later = later
 
 -- a net that isn't an input net has none
 pub unfixed_output : (chip : Chip) (net : ℕ) → IsPinned chip → net_kind chip net ≡ Storage OUTPUT_NET → fixed_value chip net ≡ X

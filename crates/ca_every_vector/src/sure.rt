@@ -1,6 +1,7 @@
 //! Instances after which the good last values are definite under each definite pair.
 
-ghost use Rattle.std.specs.Prelude.{◌≡◌, ◌<◌, length, IsTrue, IfOk, None};
+ghost use Rattle.std.specs.Prelude.{◌≡◌, ◌≢◌, ◌<◌, length, IsTrue, IfOk, None};
+ghost use Rattle.ca_net.specs.declared.trit.Trit.TheVariants.{X};
 ghost use Rattle.ca_net.specs.Circuit.{IsWellFormed};
 ghost use Rattle.ca_flat.specs.Flat.{flat};
 ghost use Rattle.ca_net.specs.State.{value_at};
@@ -31,7 +32,31 @@ fn mark_inputs(chip: &View<'_>, values: &mut State)
     }
 }
 
-// So are those of constants with a definite value.
+// Whether a value is definite.
+fn is_definite(value: Trit) -> bool
+    ensures { IsTrue result → value ≢ X }
+{
+    value != Trit::X
+}
+
+// The net of a constant is sure, if that has a definite value.
+fn mark_constant(chip: &View<'_>, fixed: &[Trit], k: usize, values: &mut State)
+    requires fixed { AreFixed chip.now.core fixed.now }
+    requires known { k < length chip.now.core.constants }
+    requires nets { length values.old ≡ length chip.now.core.nets }
+    requires sure { AreSure chip.now.core values.old }
+    ensures nets { length values.new ≡ length chip.now.core.nets }
+    ensures sure { AreSure chip.now.core values.new }
+{
+    chip.linked();
+    let net = chip.constant(k).net;
+    if !is_definite(at(fixed, net)) {
+        return;
+    }
+    values.set(net, Trit::Zero);
+}
+
+// So are the nets of all constants.
 fn mark_fixed(chip: &View<'_>, fixed: &[Trit], values: &mut State)
     requires fixed { AreFixed chip.now.core fixed.now }
     requires nets { length values.old ≡ length chip.now.core.nets }
@@ -41,10 +66,7 @@ fn mark_fixed(chip: &View<'_>, fixed: &[Trit], values: &mut State)
 {
     chip.linked();
     for k in 0..chip.constant_count() {
-        let net = chip.constant(k).net;
-        if at(fixed, net) != Trit::X {
-            values.set(net, Trit::Zero);
-        }
+        mark_constant(chip, fixed, k, values);
     }
 }
 

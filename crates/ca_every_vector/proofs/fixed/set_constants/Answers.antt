@@ -1,4 +1,4 @@
-use Rattle.std.proofs.Common.{◌≡◌, ◌∙◌, ℕ, suc, ◌+◌, ◌-◌, length, drop, subst, sym, ap, arith}
+use Rattle.std.proofs.Common.{◌≡◌, ℕ, suc, ◌+◌, ◌-◌, length, drop, subst, sym, arith}
 use Rattle.std.specs.Prelude.{Some, slice_get}
 use Rattle.std.proofs.lemmas.List.{drop_all}
 use Rattle.ca_flat.specs.Chip.{Constant}
@@ -10,7 +10,7 @@ pub loop-k-init : goal.loop-k-init
 loop-k-init c =
     let core = c.args.chip.now.core in
     subst (λ list. AreFixedBy list (length c.args.chip.now.core.nets) c.args.values.now)
-    (sym (drop_all c.args.chip.now.core.constants c.constant_count-count.result (let e = c.constant_count-count.ensures in omega arith)))
+    (sym (drop_all (c.constant_count-count.result - 0) c.args.chip.now.core.constants (let e = c.constant_count-count.ensures in omega arith)))
     (fixed_none (length core.nets) c.args.values.now c.requires)
 
 pub loop-k-preserved : goal.loop-k-preserved
