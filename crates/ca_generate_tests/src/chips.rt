@@ -112,7 +112,7 @@ pub(crate) const COUNTED: [(&[u8], u32, &[u8]); 6] = [
     (
         C17,
         1023,
-        b"defects 114, credited 66, unexposable 48, untestable 0, aborted 0, empty 0, pairs 12",
+        b"defects 114, credited 66, unexposable 48, untestable 0, aborted 0, empty 0, pairs 13",
     ),
     (
         C17,

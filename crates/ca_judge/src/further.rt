@@ -9,7 +9,7 @@ ghost use Rattle.ca_judge.specs.Attempt.{IsAimed, IsOnWay};
 
 use crate::attempt::{Aimed, take_back};
 use crate::shorten::follow_token;
-use ca_code::{MOST_PATTERN_BITS, packed};
+use ca_code::{MOST_PATTERN_BITS, packed, unpacked};
 use ca_confined::Confined;
 use ca_flat::Token;
 use ca_sim::Sim;
@@ -51,7 +51,7 @@ pub(crate) fn set_further(
     if !take_back(aimed, confined, sim, numbers) {
         return false;
     }
-    set_ones(aimed, confined, sim, numbers, start);
+    set_ones(aimed, confined, sim, last, numbers, start);
     if confined.is_shown() {
         return true;
     }
@@ -59,11 +59,13 @@ pub(crate) fn set_further(
     confined.is_shown()
 }
 
-// Sets bits to 1, as long as the defect isn't shown and one more may be set after them.
+// Sets bits to 1, but not that of the last token, as long as the defect isn't shown and one more may be set
+// after them.
 fn set_ones(
     aimed: &Aimed<'_>,
     confined: &mut Confined,
     sim: &mut Sim,
+    last: u16,
     numbers: &mut Vec<u16>,
     start: u64,
 )
@@ -88,10 +90,21 @@ fn set_ones(
             return;
         }
         mix = mix.wrapping_mul(MIX).wrapping_add(1);
-        if let Some(bit) = bit_of(aimed.view, start, mix) {
+        if let Some(bit) = bit_of(aimed.view, last, start, mix) {
             let token = packed(Token::Branch { bit, first: true });
             follow_token(aimed, confined, sim, token, numbers);
         }
+    }
+}
+
+// Whether a token sets the bit.
+fn is_of(number: u16, bit: u16) -> bool {
+    match unpacked(number) {
+        Token::Branch {
+            bit: other,
+            first: _,
+        } => other == bit,
+        Token::Leaf => false,
     }
 }
 
@@ -109,8 +122,9 @@ fn mix_of(mix: u64, number: u16) -> u64 {
     mix.wrapping_add(number as u64).wrapping_mul(MIX)
 }
 
-// The bit that a number stands for, unless it stays 0: of four bits one does, whichever number stands for it.
-fn bit_of(view: &View, start: u64, mix: u64) -> Option<u16>
+// The bit that a number stands for, unless it is that of the last token or stays 0: of four bits one does,
+// whichever number stands for it.
+fn bit_of(view: &View, last: u16, start: u64, mix: u64) -> Option<u16>
     ensures { IfSome result (λ bit. bit < MOST_PATTERN_BITS) }
 {
     view.linked();
@@ -123,6 +137,9 @@ fn bit_of(view: &View, start: u64, mix: u64) -> Option<u16>
         Err(_) => return None,
     };
     if bit as usize >= MOST_PATTERN_BITS || (mix_of(start, bit) >> 40) % 4 == 0 {
+        return None;
+    }
+    if is_of(last, bit) {
         return None;
     }
     Some(bit)
