@@ -9,6 +9,10 @@ pub mod SpreadLemmas
 pub mod RegionLemmas
 pub mod SureLemmas
 pub mod TableLemmas
+pub mod LaneLemmas
 pub mod ListLemmas
+pub mod LaneTriedLemmas
 pub mod TriedLemmas
 pub mod NetLemmas
+pub mod LaneRegionLemmas
+pub mod LaneSpreadLemmas

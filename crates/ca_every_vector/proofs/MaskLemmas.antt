@@ -11,7 +11,7 @@ use Rattle.ca_every_vector.specs.Possible.{Has, HasAllOver, HasAllSeen}
 use Rattle.ca_view.specs.Linked.{IsPlaced}
 use Rattle.ca_every_vector.specs.code.Masks.{mask_at, AreMore, IsAdded, HasAllBelow, HaveAllSeen}
 
-or_left : (a b i : ℕ) → Has a i → Has (bit_or a b) i
+pub or_left : (a b i : ℕ) → Has a i → Has (bit_or a b) i
 or_left a b i h = bit_at_or a b i ∙ (let l = bit_at-lt b i in omega arith)
 
 or_right : (a b i : ℕ) → Has b i → Has (bit_or a b) i

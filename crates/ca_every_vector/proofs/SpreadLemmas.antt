@@ -18,6 +18,7 @@ use Rattle.ca_sweep.specs.declared.seen.Flips.{Flips}
 use Rattle.ca_view.specs.NetLists.{NetLists, AreNetsOf}
 use Rattle.ca_every_vector.specs.Inside.{IsEvaluatedInside, StaysInside}
 use Rattle.ca_view.specs.Linked.{AreReaders, IsPlaced, Reads}
+use Rattle.ca_every_vector.specs.code.Lanes.{IsSameOrInside}
 use Rattle.ca_every_vector.specs.code.Spread.{AreFlippedOut, AreInside, AreSpread, IsChangedInside, IsPutAt, StaysSomehow}
 
 -- a net of a listed instance is given a value
@@ -114,23 +115,26 @@ listed_known chip place_of rank u values others changed touched net is spread li
 
 module _ (chip : Chip) (place_of rank : ℕ → ℕ) (is : IsChip chip rank) (lists : NetLists) (nets : AreNetsOf chip lists) (u : ℕ) (flips : Flips) (values others : List Trit)
     (changed touched : List ℕ) (spread : AreSpread chip place_of u values others changed touched) (flipped : AreFlippedOut chip u values others flips)
-    (inside : AreInside chip values others touched) (hidden : All (IsChangedInside chip lists values others) changed) where
+    (inside : AreInside chip values others touched) (hidden : All (IsSameOrInside chip lists values others) changed) where
   abbrev Same : ℕ → Type 0
   Same net = value_at others net ≡ value_at values net
 
   abbrev Inside : ℕ → Type 0
   Inside w = IsEvaluatedInside chip w (value_at values) (value_at others)
 
-  changed_at : (net : ℕ) → Contains changed net → IsChangedInside chip lists values others net
-  changed_at net listed = All-contains (IsChangedInside chip lists values others) changed net hidden listed
+  changed_at : (net : ℕ) → Same net ⊎ IsChangedInside chip lists values others net
+  changed_at net = elim (spread.same net) [
+    | inl same ↦ inl same
+    | inr listed ↦ All-contains (IsSameOrInside chip lists values others) changed net hidden listed
+  ]
 
   -- an instance that reads a net that is listed is inside, and else its first pins are the same
   pins : (w end : ℕ) → w < count_of chip → end < suc (inputs_at chip w) → ((pin : ℕ) → pin < end → Same (net_of chip w pin)) ⊎ Inside w
   pins w zero known less = inl (λ pin none. absurd (omega arith))
   pins w (suc end) known less = elim (pins w end known (omega arith)) [
     | inr done ↦ inr done
-    | inl before ↦ elim (spread.same (net_of chip w end)) [
-      | inr listed ↦ inr ((changed_at (net_of chip w end) listed).readers w (record { known = known; pin = end; within = omega arith; on = refl }))
+    | inl before ↦ elim (changed_at (net_of chip w end)) [
+      | inr changed ↦ inr (changed.readers w (record { known = known; pin = end; within = omega arith; on = refl }))
       | inl same ↦ inl (λ pin low. elim (cases_eq pin end) [
         | inl e ↦ subst (λ p. Same (net_of chip w p)) (sym e) same
         | inr other ↦ before pin (omega (arith, other))
@@ -176,12 +180,12 @@ module _ (chip : Chip) (place_of rank : ℕ → ℕ) (is : IsChip chip rank) (li
         | inl out ↦ inl (record { pins = same; outputs = out })
       ]
     ];
-    unseen = λ place less. elim (spread.same (slice_index chip.outputs place)) [
+    unseen = λ place less. elim (changed_at (slice_index chip.outputs place)) [
       | inl same ↦ same
-      | inr listed ↦
+      | inr changed ↦
           let net = slice_index chip.outputs place in
           let observed = (nets.observed net).1 (Contains-get_or chip.outputs place 0 less) in
-          let clash : true ≡ false = sym observed ∙ (changed_at net listed).hidden in cc
+          let clash : true ≡ false = sym observed ∙ changed.hidden in cc
     ];
   }
 

@@ -68,10 +68,10 @@ digit_here count number place counted digit within same is = digit_at count numb
     ∙ ap (λ n. digit_value (number / 2 ^ (n - 1 - place) % 2)) (sym same) ∙ sym is
 
 -- so many vectors have few bits
-pub vector_count : (bits : ℕ) → bits ≤ 8 → (1 * 2 ^ bits % 2 ^ 64 ≡ 2 ^ bits) × (2 ^ bits ≤ 256)
+pub vector_count : (bits : ℕ) → bits ≤ 20 → (1 * 2 ^ bits % 2 ^ 64 ≡ 2 ^ bits) × (2 ^ bits ≤ 1048576)
 vector_count bits few =
-    let powers : 2 ^ bits ≤ 2 ^ 8 = pow-le-pow_right (omega arith) few in
-    let low : 2 ^ bits ≤ 256 = omega (arith, powers) in (mod-eq_of_lt (omega arith) ∙ omega arith, low)
+    let powers : 2 ^ bits ≤ 2 ^ 20 = pow-le-pow_right (omega arith) few in
+    let low : 2 ^ bits ≤ 1048576 = omega (arith, powers) in (mod-eq_of_lt (omega arith) ∙ omega arith, low)
 
 pub row_count : (bits : ℕ) → bits ≤ 6 → (1 * 2 ^ bits % 2 ^ 64 ≡ 2 ^ bits) × (2 ^ bits ≤ 64)
 row_count bits few =

@@ -6,3 +6,5 @@ pub mod Spread
 pub mod Region
 pub mod Sure
 pub mod Inside
+pub mod Lanes
+pub mod Wide

@@ -18,6 +18,7 @@ use crate::inside::find_inside;
 use crate::laws::{impossible_is_untestable, outside_is_untestable};
 use crate::sure::sure_instances;
 use crate::vectors::MOST_VECTOR_BITS;
+use crate::wanted::find_wanted;
 use ca_base::NoMemory;
 use ca_defect::Rows;
 use ca_flat::ChipDefect;
@@ -84,6 +85,15 @@ impl<'a> EveryVector<'a> {
         })
     }
 
+    /// Tries all vectors of the regions of some instances of a chip: those of which some last vectors are
+    /// wanted, a word with a bit for each. Regions have more inputs here. They are looked at as long as not
+    /// too many instances are evaluated in all.
+    pub fn of_wanted(alloc: Global, chip: &'a View<'a>, wanted: &[u64]) -> Result<Self, NoMemory>
+        ensures { IfOk result (λ table. table ≡ chip.now.core) }
+    {
+        by_wanted(alloc, chip, wanted)
+    }
+
     /// Whether the rows of a defect show that no pair of the chip detects it: none of them is possible, or
     /// none has a last vector that matters.
     pub fn is_untestable(&self, defect: ChipDefect, rows: &Rows) -> bool
@@ -129,6 +139,35 @@ impl<'a> EveryVector<'a> {
         }
         are_lasts_out(rows, self.lasts[u])
     }
+}
+
+// The table of a chip, of the wanted last vectors of some instances alone.
+fn by_wanted<'a>(
+    alloc: Global,
+    chip: &'a View<'a>,
+    wanted: &[u64],
+) -> Result<EveryVector<'a>, NoMemory>
+    ensures { IfOk result (λ table. table ≡ chip.now.core) }
+{
+    let tables = tables_of(alloc, chip)?;
+    let order = order_of(alloc, chip)?;
+    let fixed = fixed_values(alloc, chip)?;
+    let sure = sure_instances(alloc, chip, &tables, order.as_slice(), fixed.as_slice())?;
+    let found = find_wanted(
+        alloc,
+        chip,
+        tables.as_slice(),
+        order.as_slice(),
+        fixed.as_slice(),
+        wanted,
+    )?;
+    Ok(EveryVector {
+        chip,
+        firsts: Vec::new(alloc),
+        lasts: found.masks,
+        tried: found.tried,
+        sure,
+    })
 }
 
 // The table of a chip whose regions are tried.

@@ -13,6 +13,7 @@ ghost use Rattle.ca_every_vector.specs.code.Region.{IsRegion, IsTried};
 use crate::lists::entry;
 use crate::regions::{Region, Regions, region_of};
 use crate::tried::try_region;
+use crate::vectors::MOST_VECTOR_BITS;
 use ca_base::NoMemory;
 use ca_net::Trit;
 use ca_static::LastTable;
@@ -53,8 +54,8 @@ fn reserve(alloc: Global, chip: &View<'_>, fixed: &[Trit]) -> Result<Inside, NoM
     })
 }
 
-// Marks these instances.
-fn mark(parts: &[u32], masks: &[u64], tried: &mut [bool], chip: &View<'_>)
+/// Marks these instances.
+pub(crate) fn mark(parts: &[u32], masks: &[u64], tried: &mut [bool], chip: &View<'_>)
     requires placed { All (IsPlaced chip.now.core (place_in chip.now.ranks)) parts.now }
     requires parts { All (IsTried chip.now.core masks.now) parts.now }
     requires tried { AreMarks chip.now.core (IsTried chip.now.core masks.now) tried.old }
@@ -149,7 +150,7 @@ pub(crate) fn find_inside(
     ensures { IfOk result (IsKept chip.now.core) }
 {
     let mut inside = reserve(alloc, chip, fixed)?;
-    let mut regions = Regions::new(alloc, chip, order)?;
+    let mut regions = Regions::new(alloc, chip, order, MOST_VECTOR_BITS)?;
     let mut left = chip.instances().saturating_mul(MOST_TIMES);
     for place in 0..order.len() {
         left = try_next(

@@ -8,6 +8,10 @@ mod fixed;
 mod given;
 mod inside;
 mod known;
+mod lane_region;
+mod lane_spread;
+mod lane_tried;
+mod lane_vectors;
 mod laws;
 mod lists;
 mod masks;
@@ -20,6 +24,7 @@ mod sure;
 mod tried;
 mod values;
 mod vectors;
+mod wanted;
 
 pub use every_vector::EveryVector;
 pub use laws::{impossible_is_untestable, outside_is_untestable};

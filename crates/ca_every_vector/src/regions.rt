@@ -7,7 +7,7 @@ ghost use Rattle.ca_every_vector.specs.code.Region.{AreFewInputs, AreNetsIn, IsR
 
 use crate::lists::entry;
 use crate::supports::{Support, Supports, input_pins, output_pins};
-use crate::vectors::MOST_VECTOR_BITS;
+use crate::vectors::MOST_REGION_BITS;
 use ca_base::NoMemory;
 use ca_view::View;
 use std::alloc::Global;
@@ -32,15 +32,16 @@ pub(crate) struct Regions<'a> {
 }
 
 impl<'a> Regions<'a> {
-    /// Finds what the nets of a chip hang on.
+    /// Finds what the nets of a chip hang on, where these are at most this many inputs.
     pub(crate) fn new(
         alloc: Global,
         chip: &'a View<'a>,
         order: &[Option<usize>],
+        most: usize,
     ) -> Result<Self, NoMemory> {
         Ok(Regions {
             chip,
-            supports: Supports::new(alloc, chip, order)?,
+            supports: Supports::new(alloc, chip, order, most)?,
             is_found: vec![in alloc; false; chip.instances()]?,
             found: Vec::new(alloc),
         })
@@ -116,7 +117,7 @@ impl<'a> Regions<'a> {
     // Adds an instance, if the inputs stay few.
     fn add(&mut self, w: u32, inputs: Support) -> Result<Support, NoMemory> {
         if let Some(support) = self.supports.before(self.chip, w) {
-            if let Some(all) = inputs.with(&support) {
+            if let Some(all) = inputs.with(&support, self.supports.most) {
                 self.take(w)?;
                 return Ok(all);
             }
@@ -183,7 +184,7 @@ fn inputs_of(alloc: Global, chip: &View<'_>, all: &Support) -> Result<Vec<u16>, 
     ensures { IfOk result (λ inputs. AreFewInputs chip.now.core inputs.items) }
 {
     let mut inputs = Vec::new(alloc);
-    for place in 0..MOST_VECTOR_BITS {
+    for place in 0..MOST_REGION_BITS {
         if let Some(input) = all.get(place) {
             if (input as usize) < chip.input_count() {
                 inputs.push(input)?;

@@ -236,8 +236,8 @@ ghost use Rattle.ca_every_vector.specs.code.Spread.{AreFlippedOut};
 
 use ca_sweep::Flips;
 
-// Whether an output pin is flipped.
-fn is_flipped(flips: Flips, output: usize) -> bool
+/// Whether an output pin is flipped.
+pub(crate) fn is_flipped(flips: Flips, output: usize) -> bool
     ensures { result ≡ is_flipped flips output }
 {
     if output == 0 {
@@ -485,8 +485,8 @@ pub(crate) fn all_stay(
     Ok(none)
 }
 
-// A choice of output pins.
-fn flips_of(first: bool, second: bool) -> Flips
+/// A choice of output pins.
+pub(crate) fn flips_of(first: bool, second: bool) -> Flips
     ensures first { result.first ≡ first }
     ensures second { result.second ≡ second }
 {

@@ -2,7 +2,7 @@
 
 ghost use Rattle.std.specs.Prelude.{◌≡◌, ◌+◌, length, IfOk};
 
-use crate::vectors::MOST_VECTOR_BITS;
+use crate::vectors::MOST_REGION_BITS;
 use ca_base::NoMemory;
 use ca_view::View;
 use std::alloc::Global;
@@ -10,7 +10,7 @@ use std::alloc::Global;
 /// Numbers of chip inputs, as many as the bits of a vector may be.
 #[derive(Clone, Copy, Debug)]
 pub(crate) struct Support {
-    inputs: [u16; MOST_VECTOR_BITS],
+    inputs: [u16; MOST_REGION_BITS],
     count: usize,
 }
 
@@ -18,14 +18,14 @@ impl Support {
     /// No input.
     pub(crate) fn none() -> Self {
         Support {
-            inputs: [0; MOST_VECTOR_BITS],
+            inputs: [0; MOST_REGION_BITS],
             count: 0,
         }
     }
 
     /// The input at a place, if there are more.
     pub(crate) fn get(&self, place: usize) -> Option<u16> {
-        if place < self.count && place < MOST_VECTOR_BITS {
+        if place < self.count && place < MOST_REGION_BITS {
             Some(self.inputs[place])
         } else {
             None
@@ -33,7 +33,7 @@ impl Support {
     }
 
     fn has(&self, input: u16) -> bool {
-        for place in 0..MOST_VECTOR_BITS {
+        for place in 0..self.count {
             if self.get(place) == Some(input) {
                 return true;
             }
@@ -41,12 +41,12 @@ impl Support {
         false
     }
 
-    // Adds an input. Whether it is among them now.
-    fn add(&mut self, input: u16) -> bool {
+    // Adds an input, if there are fewer than this many. Whether it is among them now.
+    fn add(&mut self, input: u16, most: usize) -> bool {
         if self.has(input) {
             return true;
         }
-        if self.count >= MOST_VECTOR_BITS {
+        if self.count >= most || self.count >= MOST_REGION_BITS {
             return false;
         }
         self.inputs[self.count] = input;
@@ -54,12 +54,12 @@ impl Support {
         true
     }
 
-    /// The inputs of both, if they aren't too many.
-    pub(crate) fn with(&self, other: &Support) -> Option<Support> {
+    /// The inputs of both, if they are at most this many.
+    pub(crate) fn with(&self, other: &Support, most: usize) -> Option<Support> {
         let mut all = *self;
-        for place in 0..MOST_VECTOR_BITS {
+        for place in 0..other.count {
             if let Some(input) = other.get(place) {
-                if !all.add(input) {
+                if !all.add(input, most) {
                     return None;
                 }
             }
@@ -68,9 +68,11 @@ impl Support {
     }
 }
 
-/// For each net the chip inputs that it hangs on, if they are few, and the instance that drives it.
+/// For each net the chip inputs that it hangs on, if they are at most this many, and the instance that drives
+/// it.
 #[derive(Drop)]
 pub(crate) struct Supports {
+    pub(crate) most: usize,
     nets: Vec<Option<Support>>,
     drivers: Vec<Option<u32>>,
 }
@@ -81,8 +83,10 @@ impl Supports {
         alloc: Global,
         chip: &View<'_>,
         order: &[Option<usize>],
+        most: usize,
     ) -> Result<Self, NoMemory> {
         let mut supports = Supports {
+            most,
             nets: vec![in alloc; None; chip.nets()]?,
             drivers: vec![in alloc; None; chip.nets()]?,
         };
@@ -103,7 +107,7 @@ impl Supports {
     // The net of a chip input hangs on it alone.
     fn begin(&mut self, net: Option<&u32>, input: usize) {
         let mut own = Support::none();
-        if input <= u16::MAX as usize && own.add(input as u16) {
+        if input <= u16::MAX as usize && own.add(input as u16, self.most) {
             if let Some(net) = net {
                 if (*net as usize) < self.nets.len() {
                     self.nets[*net as usize] = Some(own);
@@ -140,7 +144,7 @@ impl Supports {
         let mut all = Support::none();
         for net in input_pins(chip, u) {
             match self.of(*net) {
-                Some(support) => match all.with(&support) {
+                Some(support) => match all.with(&support, self.most) {
                     Some(both) => all = both,
                     None => return None,
                 },

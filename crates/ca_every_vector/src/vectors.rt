@@ -10,6 +10,12 @@ use ca_sim::Bits;
 /// The most bits of a vector of a chip all of whose vectors are tried: they are 256 vectors.
 pub const MOST_VECTOR_BITS: usize = 8;
 
+/// The most inputs of a region.
+pub(crate) const MOST_REGION_BITS: usize = 20;
+
+/// The most inputs of a region that is tried before a wider one.
+pub(crate) const FEW_REGION_BITS: usize = 12;
+
 /// The first vector of this number; no bit of the last one is set.
 #[derive(Clone, Copy, Debug)]
 pub(crate) struct FirstVector {

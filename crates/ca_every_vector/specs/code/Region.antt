@@ -9,7 +9,7 @@ use Rattle.ca_defect.specs.Row.{digit_value}
 use Rattle.ca_flat.specs.Chip.{Chip, outputs_at, output_net, count_of}
 use Rattle.ca_every_vector.specs.code.Fixed.{fixed_value}
 use Rattle.ca_view.specs.Linked.{IsPlaced}
-use Rattle.ca_every_vector.specs.declared.vectors.TheConstants.{MOST_VECTOR_BITS}
+use Rattle.ca_every_vector.specs.declared.vectors.TheConstants.{MOST_REGION_BITS}
 use Rattle.ca_every_vector.specs.declared.regions.Region.{Region}
 use Rattle.ca_every_vector.specs.Possible.{Has, IsOfEach}
 use Rattle.ca_every_vector.specs.Inside.{AllStayInside, HasAllFrom, HasLastsInside}
@@ -22,7 +22,7 @@ input_at inputs j = slice_index_or inputs j 0
 
 -- these are a few inputs of the chip
 pub record AreFewInputs (chip : Chip) (inputs : List ℕ) : Type 0 where
-  pub few : length inputs ≤ MOST_VECTOR_BITS
+  pub few : length inputs ≤ MOST_REGION_BITS
   pub known : (j : ℕ) → j < length inputs → input_at inputs j < length chip.inputs
 
 -- its digit of a number

@@ -1,4 +1,4 @@
-use Rattle.std.proofs.Common.{List, ℕ, subst, get_or}
+use Rattle.std.proofs.Common.{List, ℕ, inr, subst, get_or}
 use Rattle.std.specs.List.{All, Contains}
 use Rattle.std.proofs.lemmas.List.Elements.{Contains-get_or}
 use Rattle.ca_net.specs.State.{value_at}
@@ -26,5 +26,5 @@ returns-clause-stays c = λ is.
       stays_of_checks core place_of place_of c.linked.ensures.linked.is_chip c.args.chip.now.lists c.linked.ensures.nets c.args.u c.args.flips values others
           c.spread.new.changed.items c.spread.new.touched.items c.in_ok-spread.ensures (c.are_flipped.ensures c.if-not-are_flipped.false)
           (subst (AreInside core values others) c.as_slice-2.ensures.value (c.are_touched_inside.ensures c.if-not-are_touched_inside.false))
-          (subst (All (IsChangedInside core c.args.chip.now.lists values others)) c.as_slice-3.ensures.value (c.are_changed_inside.ensures is)),
+          (λ k d less. inr (subst (All (IsChangedInside core c.args.chip.now.lists values others)) c.as_slice-3.ensures.value (c.are_changed_inside.ensures is) k d less)),
     )
