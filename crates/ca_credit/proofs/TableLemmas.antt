@@ -31,6 +31,21 @@ all_known [] each = tt
 all_known (None ∷ table) each = absurd (each zero (omega arith) refl)
 all_known (Some verdict ∷ table) each = all_known table (λ k lt none. each (suc k) (omega arith) none)
 
+-- a verdict that is written into a table that is known is written into what is known, and all stay known
+pub known-set : (table : List (Option Verdict)) (place : ℕ) (new : Verdict) → AreAllKnown table
+    → known_verdicts (slice_set table place (Some new)) ≡ slice_set (known_verdicts table) place new
+known-set [] place new known = refl
+known-set (None ∷ table) place new known = absurd known
+known-set (Some verdict ∷ table) zero new known = refl
+known-set (Some verdict ∷ table) (suc place) new known = ap (λ (verdicts : List Verdict). verdict ∷ verdicts) (known-set table place new known)
+
+pub all_known-set : (table : List (Option Verdict)) (place : ℕ) (new : Verdict) → AreAllKnown table
+    → AreAllKnown (slice_set table place (Some new))
+all_known-set [] place new known = known
+all_known-set (None ∷ table) place new known = absurd known
+all_known-set (Some verdict ∷ table) zero new known = known
+all_known-set (Some verdict ∷ table) (suc place) new known = all_known-set table place new known
+
 -- a credit in place of an open verdict is one more
 pub credit_count-set : (table : List (Option Verdict)) (k pair output : ℕ) → k < length table → is_open (verdict_at table k) ≡ true
     → credit_count (slice_set table k (Some (Credited pair output))) ≡ credit_count table + 1

@@ -1,12 +1,13 @@
 //! A verdict for each defect of a chip.
 
-ghost use Rattle.std.specs.Prelude.{◌≡◌, ◌<◌, ◌^◌, length, IfOk, IfErr, false, slice_index_or};
+ghost use Rattle.std.specs.Prelude.{◌≡◌, ◌<◌, ◌^◌, length, IfOk, IfErr};
 ghost use Rattle.ca_credit.specs.Good.{IsGood};
 ghost use Rattle.ca_generate.specs.GenerateFault.{IsCause};
 ghost use Rattle.ca_generate.specs.Known.{AreUntestable};
 
 use crate::bench::Bench;
 use crate::fault::{Aims, GenerateFault};
+use crate::marks::is_marked;
 use crate::watch::Watch;
 use crate::work::Work;
 use ca_credit::Verdicts;
@@ -66,11 +67,4 @@ pub fn generate_knowing<B: Bench, T: Watch>(
         aims: work.aims,
         verdicts: work.credits.verdicts(),
     })
-}
-
-// Whether a place is marked; past the marks none is.
-fn is_marked(marks: &[bool], place: usize) -> bool
-    ensures { result ≡ slice_index_or marks.now place false }
-{
-    place < marks.len() && marks[place]
 }
