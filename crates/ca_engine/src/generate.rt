@@ -1,8 +1,9 @@
 //! Test generation on a linked chip.
 
-ghost use Rattle.std.specs.Prelude.{◌≡◌, IfOk, IfErr};
+ghost use Rattle.std.specs.Prelude.{ℕ, ◌≡◌, IfOk, IfErr};
 ghost use Rattle.ca_credit.specs.Good.{IsGood};
 ghost use Rattle.ca_generate.specs.GenerateFault.{IsCause};
+ghost use Rattle.ca_generate.specs.declared.fault.GenerateFault.TheVariants as fault;
 ghost use Rattle.ca_generate.specs.Known.{AreUntestable};
 ghost use Rattle.ca_engine.specs.ChipTask.{task_of};
 ghost use Rattle.ca_judge.specs.Attempt.{IsTriedOn};
@@ -10,9 +11,10 @@ ghost use Rattle.ca_sweep.specs.Seen.{IsForChip};
 
 use crate::chip_bench::ChipBench;
 use crate::finders::reserve_laned;
-use crate::untestable::untestable_marks;
+use crate::untestable::{marks_after, untestable_marks};
+use ca_base::NoMemory;
 use ca_choice::CheapestWay;
-use ca_generate::{GenerateFault, Generated, Watch, generate_knowing};
+use ca_generate::{GenerateFault, Generated, Watch, generate_knowing, rule_out};
 use ca_judge::{Attempts, ScopedChoice};
 use ca_linked::Chip;
 use ca_rows::{ChipRows, ExposableDefects};
@@ -59,7 +61,8 @@ fn generate_viewed<T: Watch>(
 }
 
 /// The same over the chip's view and rows. Before any search all vectors of the chip are tried, or those of
-/// its regions, if they have too many bits.
+/// its regions, if they have too many bits; and after all searches those of wider regions, for the defects
+/// that are aborted.
 pub fn generate_over<T: Watch>(
     alloc: Global,
     view: &View<'_>,
@@ -77,7 +80,34 @@ pub fn generate_over<T: Watch>(
     let untestable = untestable_marks(alloc, view, rows)?;
     let made = generate_marked(alloc, view, rows, &untestable, budget, watch);
     drop(untestable);
-    made
+    match made {
+        Ok(made) => ruled_out(alloc, view, rows, made),
+        Err(fault) => Err(fault),
+    }
+}
+
+// The same where the aborted defects are untestable of which that is known afterwards.
+fn ruled_out(
+    alloc: Global,
+    view: &View<'_>,
+    rows: &ChipRows<'_>,
+    made: Generated,
+) -> Result<Generated, GenerateFault>
+    requires rows { rows.now.chip ≡ view.now.chip }
+    ensures good { (budget : ℕ)
+        → IsGood (task_of view.now.chip budget) made.pairs made.aims made.verdicts
+        → IfOk result (λ new. IsGood (task_of view.now.chip budget) new.pairs new.aims new.verdicts) }
+    ensures memory { IfErr result (λ given. given ≡ fault.NoMemory) }
+{
+    view.viewed();
+    let mut made = made;
+    match marks_after(alloc, view, rows, &made.verdicts) {
+        Ok(marks) => {
+            rule_out(&mut made.verdicts, &marks);
+            Ok(made)
+        }
+        Err(NoMemory) => Err(GenerateFault::NoMemory),
+    }
 }
 
 // The same where some defects are known to be untestable.

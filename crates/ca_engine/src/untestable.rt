@@ -1,4 +1,4 @@
-//! Defects of a linked chip of which is known, before any search, that no pair detects them.
+//! Defects of a linked chip of which is known, before any search or after all, that no pair detects them.
 
 ghost use Rattle.std.specs.Prelude.{ℕ, ◌≡◌, IfOk};
 ghost use Rattle.std.specs.List.{All};
@@ -10,6 +10,8 @@ ghost use Rattle.ca_engine.specs.code.Untestable.{AreMarked};
 
 use ca_base::NoMemory;
 use ca_chip_defects::{ChipDefects, chip_defects};
+use ca_credit::{Verdict, Verdicts};
+use ca_defect::Rows;
 use ca_every_vector::EveryVector;
 use ca_flat::ExposingRows;
 use ca_flatten::{flat_is_well_formed, judge_size};
@@ -33,6 +35,73 @@ pub(crate) fn untestable_marks<R: ExposingRows>(
     let defects = chip_defects(alloc, view)?;
     let table = EveryVector::new(alloc, view)?;
     marks_of(alloc, &table, rows, &defects)
+}
+
+/// For each defect of a chip's library instances whether it is known that no pair of the chip detects it, of
+/// those that were aborted and some others: all vectors of their instances' regions are tried.
+pub(crate) fn marks_after<R: ExposingRows>(
+    alloc: Global,
+    view: &View<'_>,
+    rows: &R,
+    verdicts: &Verdicts,
+) -> Result<Vec<bool>, NoMemory>
+    requires { R.chip rows.now ≡ view.now.core }
+    ensures { IfOk result (λ marks. (budget : ℕ)
+        → AreUntestable (task_of view.now.chip budget) marks.items) }
+{
+    view.viewed();
+    flat_is_well_formed();
+    judge_size(alloc, view.chip())?;
+    let defects = chip_defects(alloc, view)?;
+    let wanted = wanted_lasts(alloc, view, rows, &defects, verdicts)?;
+    let table = EveryVector::of_wanted(alloc, view, &wanted)?;
+    marks_of(alloc, &table, rows, &defects)
+}
+
+// For each instance the last vectors of the rows that expose its aborted defects.
+fn wanted_lasts<R: ExposingRows>(
+    alloc: Global,
+    view: &View<'_>,
+    rows: &R,
+    defects: &ChipDefects,
+    verdicts: &Verdicts,
+) -> Result<Vec<u64>, NoMemory>
+    requires rows { R.chip rows.now ≡ view.now.core }
+    requires defects { All (IsDefectIn (R.chip rows.now)) defects.now }
+{
+    let mut wanted = vec![in alloc; 0u64; view.instances()]?;
+    for place in 0..defects.len() {
+        if is_aborted(verdicts, place) {
+            let defect = defects.get(place);
+            add_lasts(&mut wanted, defect.instance as usize, rows.rows(defect));
+        }
+    }
+    Ok(wanted)
+}
+
+// Whether the defect at a place was aborted.
+fn is_aborted(verdicts: &Verdicts, place: usize) -> bool {
+    if place >= verdicts.len() {
+        return false;
+    }
+    match verdicts.get(place) {
+        Verdict::Aborted { code: _ } => true,
+        Verdict::Credited { pair: _, output: _ } | Verdict::Unexposable | Verdict::Untestable =>
+            false,
+    }
+}
+
+// Adds the last vectors of rows to the word of an instance.
+fn add_lasts(wanted: &mut [u64], u: usize, rows: &Rows) {
+    if u >= wanted.len() {
+        return;
+    }
+    for place in 0..rows.len() {
+        let last = rows.get(place).last;
+        if last < 64 {
+            wanted[u] |= 1 << last;
+        }
+    }
 }
 
 // For each defect of a list whether the table shows that no pair detects it.
