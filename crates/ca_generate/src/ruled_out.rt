@@ -25,7 +25,8 @@ pub fn rule_out(verdicts: &mut Verdicts, untestable: &[bool])
 fn rule_out_at(verdicts: &mut Verdicts, untestable: &[bool], place: usize)
     requires { place < length verdicts.old }
     ensures good { (task : Task) (pairs : List (List Bool)) (aims : List ℕ)
-        → AreUntestable task untestable.now → IsGood task pairs aims verdicts.old → IsGood task pairs aims verdicts.new }
+        → AreUntestable task untestable.now
+        → IsGood task pairs aims verdicts.old → IsGood task pairs aims verdicts.new }
     ensures as_many { length verdicts.new ≡ length verdicts.old }
 {
     if is_marked(untestable, place) && is_aborted(verdicts.get(place)) {
