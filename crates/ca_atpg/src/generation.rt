@@ -41,13 +41,6 @@ pub struct Tested {
     pub report: Text,
 }
 
-// The pairs, their aims and the verdicts, and what the good chip ends with under each pair.
-#[derive(Drop)]
-struct Made {
-    generated: Generated,
-    values: Expected,
-}
-
 // What the good chip ends with under each pair, by rows, a choice and a finder of any type: so the bench that
 // is dropped here has few parts to the prover.
 fn values_by<R: ExposableDefects, P: Attempts + Drop, F: FlipFinder + Drop>(
@@ -107,48 +100,6 @@ pub fn stil_over(
     stil_of(alloc, view.chip(), chains, pairs, &values)
 }
 
-// Both, over the chip's view and rows.
-#[tactic(auto, using(crate::proofs::AtpgLemmas::task_pairs_fit))]
-fn made_over<T: Watch>(
-    alloc: Global,
-    view: &View<'_>,
-    rows: &ChipRows<'_>,
-    budget: u32,
-    watch: &mut T,
-) -> Result<Made, GenerateFault>
-    requires { rows.now.chip ≡ view.now.chip }
-
-    ensures good { IfOk result (λ made. IsGood (task_of view.now.chip budget)
-        made.generated.pairs made.generated.aims made.generated.verdicts) }
-    ensures values { IfOk result
-        (λ made. AreExpected (core_of view.now.chip) made.generated.pairs made.values) }
-    ensures cause { IfErr result (IsCause (task_of view.now.chip budget)) }
-{
-    let generated = generate_over(alloc, view, rows, budget, watch)?;
-    let values = values_for(alloc, view, rows, &generated.pairs)?;
-    Ok(Made { generated, values })
-}
-
-// The same over the chip's view. Each value is dropped in one place here and below: more places are slow to
-// prove.
-fn made_for<T: Watch>(
-    alloc: Global,
-    view: &View<'_>,
-    budget: u32,
-    watch: &mut T,
-) -> Result<Made, GenerateFault>
-    ensures good { IfOk result (λ made. IsGood (task_of view.now.chip budget)
-        made.generated.pairs made.generated.aims made.generated.verdicts) }
-    ensures values { IfOk result
-        (λ made. AreExpected (core_of view.now.chip) made.generated.pairs made.values) }
-    ensures cause { IfErr result (IsCause (task_of view.now.chip budget)) }
-{
-    let rows = ChipRows::new(alloc, view.chip())?;
-    let made = made_over(alloc, view, &rows, budget, watch);
-    drop(rows);
-    made
-}
-
 /// Searches for pairs that show the defects of a linked chip, with at most `budget` branches for each, and
 /// writes the texts. The watch is notified after each defect's turn. Also answers out of memory for a chip
 /// with 2^14 chip inputs, with 2^32 defects or whose flat network may have 2^32 nodes or devices.
@@ -168,20 +119,28 @@ pub fn atpg<T: Watch>(
     ensures cause { IfErr result (IsCause (task_of chip.now budget)) }
 {
     let view = View::new(alloc, chip)?;
-    let tested = tested_for(alloc, chains, &view, budget, watch);
+    let rows = ChipRows::new(alloc, chip)?;
+    let made = generate_over(alloc, &view, &rows, budget, watch);
+    let tested = tested_by(alloc, chains, &view, &rows, budget, made);
+    drop(rows);
     drop(view);
     tested
 }
 
-// The same over the chip's view.
-fn tested_for<T: Watch>(
+// What was generated, with its texts, or why nothing was.
+fn tested_by(
     alloc: Global,
     chains: &Chains,
     view: &View<'_>,
+    rows: &ChipRows<'_>,
     budget: u32,
-    watch: &mut T,
+    made: Result<Generated, GenerateFault>,
 ) -> Result<Tested, GenerateFault>
-    requires { AreAllChains view.now.chip chains.now }
+    requires chains { AreAllChains view.now.chip chains.now }
+    requires rows { rows.now.chip ≡ view.now.chip }
+    requires good { IfOk made (λ made. IsGood (task_of view.now.chip budget)
+        made.pairs made.aims made.verdicts) }
+    requires cause { IfErr made (IsCause (task_of view.now.chip budget)) }
 
     ensures good { IfOk result
         (λ made. IsGood (task_of view.now.chip budget) made.pairs made.aims made.verdicts) }
@@ -189,8 +148,8 @@ fn tested_for<T: Watch>(
     ensures report { IfOk result (λ made. made.report ≡ report_of view.now.chip made.verdicts) }
     ensures cause { IfErr result (IsCause (task_of view.now.chip budget)) }
 {
-    let made = made_for(alloc, view, budget, watch)?;
-    let texts = texts_of(alloc, chains, view, budget, &made)?;
+    let made = made?;
+    let texts = texts_of(alloc, chains, view, rows, budget, &made)?;
     Ok(with_texts(made, texts))
 }
 
@@ -201,40 +160,33 @@ struct Texts {
     report: Text,
 }
 
-// The texts of what was made.
+// The texts of what was generated.
 #[tactic(auto, using(crate::proofs::AtpgLemmas::task_pairs_fit, crate::proofs::AtpgLemmas::verdicts_within, crate::proofs::AtpgLemmas::one_verdict_each))]
 fn texts_of(
     alloc: Global,
     chains: &Chains,
     view: &View<'_>,
+    rows: &ChipRows<'_>,
     budget: u32,
-    made: &Made,
+    made: &Generated,
 ) -> Result<Texts, NoMemory>
     requires chains { AreAllChains view.now.chip chains.now }
-    requires good { IsGood (task_of view.now.chip budget)
-        made.now.generated.pairs made.now.generated.aims made.now.generated.verdicts }
-    requires values { AreExpected (core_of view.now.chip) made.now.generated.pairs made.now.values }
+    requires rows { rows.now.chip ≡ view.now.chip }
+    requires good { IsGood (task_of view.now.chip budget) made.now.pairs made.now.aims made.now.verdicts }
 
-    ensures stil { IfOk result
-        (λ texts. IsStil view.now.chip chains.now made.now.generated.pairs texts.stil) }
-    ensures report { IfOk result
-        (λ texts. texts.report ≡ report_of view.now.chip made.now.generated.verdicts) }
+    ensures stil { IfOk result (λ texts. IsStil view.now.chip chains.now made.now.pairs texts.stil) }
+    ensures report { IfOk result (λ texts. texts.report ≡ report_of view.now.chip made.now.verdicts) }
 {
-    let Generated {
-        pairs,
-        verdicts,
-        ..
-    } = &made.generated;
-    let stil = stil_of(alloc, view.chip(), chains, pairs, &made.values)?;
-    let report = report_of(alloc, view, verdicts)?;
+    let stil = stil_over(alloc, chains, view, rows, &made.pairs)?;
+    let report = report_of(alloc, view, &made.verdicts)?;
     Ok(Texts { stil, report })
 }
 
-// What was made, with its texts.
-fn with_texts(made: Made, texts: Texts) -> Tested
-    ensures pairs { result.pairs ≡ made.generated.pairs }
-    ensures aims { result.aims ≡ made.generated.aims }
-    ensures verdicts { result.verdicts ≡ made.generated.verdicts }
+// What was generated, with its texts.
+fn with_texts(made: Generated, texts: Texts) -> Tested
+    ensures pairs { result.pairs ≡ made.pairs }
+    ensures aims { result.aims ≡ made.aims }
+    ensures verdicts { result.verdicts ≡ made.verdicts }
     ensures stil { result.stil ≡ texts.stil }
     ensures report { result.report ≡ texts.report }
 {
@@ -242,7 +194,7 @@ fn with_texts(made: Made, texts: Texts) -> Tested
         pairs,
         aims,
         verdicts,
-    } = made.generated;
+    } = made;
     let Texts { stil, report } = texts;
     Tested {
         pairs,

@@ -55,45 +55,28 @@ pub fn certified_tests<T: Watch>(
     ensures cause { IfErr result (IsCause (task_of chip.now budget)) }
 {
     let view = View::new(alloc, chip)?;
-    let made = certified_for(alloc, chains, &view, budget, watch);
-    drop(view);
-    made
-}
-
-// The same over the chip's view. Each value is dropped in one place here and above: more places are slow to
-// prove.
-fn certified_for<T: Watch>(
-    alloc: Global,
-    chains: &Chains,
-    view: &View<'_>,
-    budget: u32,
-    watch: &mut T,
-) -> Result<CertifiedTests, GenerateFault>
-    requires { AreAllChains view.now.chip chains.now }
-
-    ensures certified { IfOk result
-        (λ made. IsCertified budget view.now.chip made.pairs made.aims made.certificate) }
-    ensures stil { IfOk result (λ made. IsStil view.now.chip chains.now made.pairs made.stil) }
-    ensures text { IfOk result (λ made. made.text ≡ certificate_text made.certificate) }
-    ensures cause { IfErr result (IsCause (task_of view.now.chip budget)) }
-{
-    let rows = ChipRows::new(alloc, view.chip())?;
-    let made = certified_over(alloc, chains, view, &rows, budget, watch);
+    let rows = ChipRows::new(alloc, chip)?;
+    let generated = generate_over(alloc, &view, &rows, budget, watch);
+    let certified = certified_by(alloc, chains, &view, &rows, budget, generated);
     drop(rows);
-    made
+    drop(view);
+    certified
 }
 
-// The same over the chip's view and rows.
-fn certified_over<T: Watch>(
+// What was generated, with its certificate and the texts, or why nothing was.
+fn certified_by(
     alloc: Global,
     chains: &Chains,
     view: &View<'_>,
     rows: &ChipRows<'_>,
     budget: u32,
-    watch: &mut T,
+    generated: Result<Generated, GenerateFault>,
 ) -> Result<CertifiedTests, GenerateFault>
     requires chains { AreAllChains view.now.chip chains.now }
     requires rows { rows.now.chip ≡ view.now.chip }
+    requires good { IfOk generated (λ made. IsGood (task_of view.now.chip budget)
+        made.pairs made.aims made.verdicts) }
+    requires cause { IfErr generated (IsCause (task_of view.now.chip budget)) }
 
     ensures certified { IfOk result
         (λ made. IsCertified budget view.now.chip made.pairs made.aims made.certificate) }
@@ -101,7 +84,7 @@ fn certified_over<T: Watch>(
     ensures text { IfOk result (λ made. made.text ≡ certificate_text made.certificate) }
     ensures cause { IfErr result (IsCause (task_of view.now.chip budget)) }
 {
-    let generated = generate_over(alloc, view, rows, budget, watch)?;
+    let generated = generated?;
     let proved = proved_over(alloc, chains, view, rows, budget, &generated)?;
     Ok(with_proofs(generated, proved))
 }

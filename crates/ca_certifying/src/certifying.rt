@@ -7,14 +7,14 @@ ghost use Rattle.ca_cert_text.specs.CertText.{certificate_text};
 ghost use Rattle.ca_load.specs.Files.{ReportsStoreFault};
 ghost use Rattle.ca_load.specs.Texts.{names_of};
 ghost use Rattle.ca_on_chip.specs.OnChip.{IsChipOfFiles, IsTestsCause};
-ghost use Rattle.ca_on_chip.specs.code.OnChip.{IsTestsStage};
 ghost use Rattle.ca_certifying.specs.Certified.{IsCertified};
 
 use crate::certified::{CertifiedTests, certified_tests};
 use ca_fault::Fault;
-use ca_generate::{GenerateFault, Watch};
+use ca_generate::Watch;
 use ca_linked::Chip;
 use ca_load::{FileNames, Loaded, load};
+use ca_on_chip::generation_fault;
 use ca_scan::Chains;
 use ca_store::Store;
 use std::alloc::Global;
@@ -57,31 +57,12 @@ pub fn find_certificate<S: Store, T: Watch>(
     ensures kept { S.files store.new ≡ S.files store.old }
 {
     let Loaded { chip, chains } = load(alloc, names, store)?;
-    let made = certified_on(alloc, &chip, &chains, budget, watch)?;
-    Ok(CertifiedChip { chip, chains, made })
-}
-
-// The tests of a chip with their certificate, or why there are none.
-fn certified_on<T: Watch>(
-    alloc: Global,
-    chip: &Chip,
-    chains: &Chains,
-    budget: u32,
-    watch: &mut T,
-) -> Result<CertifiedTests, Fault>
-    requires chains { AreAllChains chip.now chains.now }
-
-    ensures certified { IfOk result
-        (λ made. IsCertified budget chip.now made.pairs made.aims made.certificate) }
-    ensures stil { IfOk result (λ made. IsStil chip.now chains.now made.pairs made.stil) }
-    ensures text { IfOk result (λ made. made.text ≡ certificate_text made.certificate) }
-    ensures cause { IfErr result (IsTestsStage budget chip.now) }
-{
-    match certified_tests(alloc, chip, chains, budget, watch) {
-        Ok(made) => Ok(made),
-        Err(GenerateFault::TooManyPairs { pairs, aims }) => {
-            Err(Fault::TooManyPairs { pairs, aims })
-        }
-        Err(GenerateFault::NoMemory) => Err(Fault::NoMemory),
+    match certified_tests(alloc, &chip, &chains, budget, watch) {
+        Ok(made) => Ok(CertifiedChip {
+            chip,
+            chains,
+            made,
+        }),
+        Err(fault) => Err(generation_fault(fault)),
     }
 }

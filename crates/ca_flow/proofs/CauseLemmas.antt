@@ -2,7 +2,7 @@
 use Rattle.std.proofs.Common.{ℕ, ◌≡◌, ◌≢◌, ◌⊎◌, ◌∙◌, inl, inr, refl, sym, ap, arith, List, length, Option, Some, None}
 use Rattle.std.proofs.Common.{Result, Ok, Err, Bool, true, false, subst}
 use Rattle.std.proofs.lemmas.Option.{same_Some}
-use Rattle.std.specs.Prelude.{Vec, if◌then◌else◌, IfOk}
+use Rattle.std.specs.Prelude.{Vec, if◌then◌else◌, IfOk, IfErr}
 use Rattle.std.specs.declared.alloc.Global.{Global}
 use Rattle.std.specs.Str.{bytes_eq}
 use Rattle.ca_store.specs.Store.{Files}
@@ -713,6 +713,11 @@ no_make_sink number fault (inr many) same = subst IsPairsFault same many.pairs
 pub ok_then : {T E : Type 0} (answer : Result T E) (P Q : T → Type 0) → ((it : T) → P it → Q it) → IfOk answer P → IfOk answer Q
 ok_then (Ok it) P Q next held = next it held
 ok_then (Err fault) P Q next held = tt
+
+-- what follows from why there is none
+pub err_then : {T E : Type 0} (answer : Result T E) (P Q : E → Type 0) → ((fault : E) → P fault → Q fault) → IfErr answer P → IfErr answer Q
+err_then (Ok it) P Q next held = tt
+err_then (Err fault) P Q next held = next fault held
 
 -- the instance and the defect of a command that words spell are both a dash, or neither is
 pub is_whole : (words : List (List ℕ)) (command : Command) → IsSpelled words command → IsWhole command

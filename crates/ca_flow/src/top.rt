@@ -1,10 +1,10 @@
 //! The top call.
-ghost use Rattle.std.specs.Prelude.{◌≡◌, ◌≢◌, ◌≤◌, ℕ, List, Option, Some, map, IfOk, IfErr, IsNone, OnOk};
+ghost use Rattle.std.specs.Prelude.{◌≡◌, ◌≢◌, ℕ, List, Some, map, IfOk, IfErr, IsNone, OnOk};
 ghost use Rattle.std.specs.String.{string_bytes};
-ghost use Rattle.ca_store.specs.Store.{Nothing, Files};
-ghost use Rattle.ca_make.specs.declared.gate.TheConstants.{MOST_GATES};
+ghost use Rattle.ca_store.specs.Store.{Nothing};
+ghost use Rattle.ca_atpg.specs.Atpg.{IsStil, report_of};
 ghost use Rattle.ca_words.specs.Words.{IsCommand};
-ghost use Rattle.ca_words.specs.Command.{IsSpelled, IsSpelledAtpg, IsSpelledReplay, IsSpelledMake};
+ghost use Rattle.ca_words.specs.Command.{IsSpelled, IsSpelledAtpg, IsSpelledReplay};
 ghost use Rattle.ca_words.specs.code.Command.{NamesBoth, IsWhole};
 ghost use Rattle.ca_words.specs.Command.{IsSpelledFlatten, IsSpelledMatrix, IsSpelledGrade};
 ghost use Rattle.ca_words.specs.Command.{IsSpelledDiagnose};
@@ -12,6 +12,7 @@ ghost use Rattle.ca_flow.specs.Fault.{IsWorkCause};
 ghost use Rattle.ca_load.specs.Files.{ReportsStoreFault};
 ghost use Rattle.ca_flow.specs.Ends.{IsAsked, Ends};
 ghost use Rattle.ca_flow.specs.code.Work.{HasFiles};
+ghost use Rattle.ca_flow.specs.declared.finished.Done.TheVariants as done;
 
 use crate::bridges::bridges_work;
 use crate::certificates::{answer_work, certificate_work};
@@ -78,6 +79,7 @@ pub fn run<S: Store, W: Sink, T: Watch>(
 }
 
 // The work of a command, of which nothing is written or printed yet.
+#[tactic(auto, using(crate::proofs::CauseLemmas::no_make_sink))]
 fn work_of<'a, S: Store, T: Watch>(
     alloc: Global,
     command: &Command<'a>,
@@ -120,14 +122,29 @@ fn work_of<'a, S: Store, T: Watch>(
             let SimulatedChip { chip, ends } = find_simulation(alloc, request, store)?;
             Ok(printed(Done::Simulate { chip, ends }))
         }
-        Command::Atpg(request) => tests_work(alloc, request, store, watch),
+        Command::Atpg(request) => {
+            tests_work(alloc, request, find_tests(alloc, request, store, watch)?)
+        }
         Command::Replay(request) => replay_work(alloc, request, store),
         Command::Grade(request) => grades_work(alloc, request, store, watch),
         Command::Diagnose(request) => candidates_work(alloc, request, store, watch),
         Command::Certify(request) => certificate_work(alloc, request, store, watch),
         Command::Verify(request) => answer_work(alloc, request, store),
         Command::Bridges(request) => bridges_work(alloc, request, store, watch),
-        Command::Make(number) => make_work(alloc, *number, watch),
+        Command::Make(number) => {
+            let MadeChip {
+                chip,
+                pairs,
+                aims,
+                verdicts,
+            } = find_made(alloc, *number, watch)?;
+            Ok(printed(Done::Make {
+                chip,
+                pairs,
+                aims,
+                verdicts,
+            }))
+        }
         Command::Help => Ok(printed(Done::Help)),
         Command::Version => Ok(printed(Done::Version)),
     }
@@ -194,30 +211,23 @@ fn flat_work<'a, S: Store>(
     })
 }
 
-// The work of `atpg`.
-#[tactic(auto, using(crate::proofs::CauseLemmas::atpg_asked, crate::proofs::CauseLemmas::atpg_files, crate::proofs::CauseLemmas::atpg_cause, crate::proofs::CauseLemmas::no_tests_sink))]
-fn tests_work<'a, S: Store, T: Watch>(
+// The work of `atpg`, whose tests were found.
+#[tactic(auto, using(crate::proofs::CauseLemmas::atpg_files))]
+fn tests_work<'a>(
     alloc: Global,
     request: &AtpgWords<'a>,
-    store: &mut S,
-    watch: &mut T,
+    found: TestedChip,
 ) -> Result<Work<'a>, Fault>
-    requires closed { S.opened store.old ≡ Nothing }
+    requires stil { IsStil found.chip found.chains found.made.pairs found.made.stil }
+    requires report { found.made.report ≡ report_of found.chip found.made.verdicts }
 
-    ensures asked { IfOk result (λ work. (words : List (List ℕ)) → IsSpelledAtpg words request.now
-        → IsAsked words (S.files store.old) work.done) }
+    ensures done { IfOk result (λ work. work.done ≡ done.Atpg found.chip found.chains
+        found.made.pairs found.made.aims found.made.verdicts) }
     ensures file { IfOk result (λ work. (words : List (List ℕ)) → IsSpelledAtpg words request.now
         → HasFiles words work.done work.file work.second) }
-    ensures cause { IfErr result (λ fault. (words : List (List ℕ)) → IsSpelledAtpg words request.now
-        → IsWorkCause words (S.files store.old) (S.faults store.old) (S.faults store.new) fault) }
-    ensures no_sink { IfErr result (λ fault. fault ≢ Fault.SinkFailed) }
-    ensures quiet { OnOk result (S.faults store.new ≡ S.faults store.old) }
-    ensures reported { IfErr result (λ fault.
-        ReportsStoreFault (Some fault) (S.faults store.old) (S.faults store.new)) }
-    ensures closed { S.opened store.new ≡ Nothing }
-    ensures kept { S.files store.new ≡ S.files store.old }
+    ensures cause { IfErr result (λ fault. fault ≡ Fault.NoMemory) }
 {
-    let TestedChip { chip, chains, made } = find_tests(alloc, request, store, watch)?;
+    let TestedChip { chip, chains, made } = found;
     let Tested {
         pairs,
         aims,
@@ -372,31 +382,4 @@ fn candidates_work<'a, S: Store, T: Watch>(
             Err(Fault::NoMemory)
         }
     }
-}
-
-// The work of `make`, which touches no file.
-#[tactic(auto, using(crate::proofs::CauseLemmas::make_asked, crate::proofs::CauseLemmas::make_cause, crate::proofs::CauseLemmas::no_make_sink))]
-fn make_work<'a, T: Watch>(alloc: Global, number: u32, watch: &mut T) -> Result<Work<'a>, Fault>
-    requires { number ≤ MOST_GATES }
-
-    ensures asked { IfOk result (λ work. (words : List (List ℕ)) (files : Option Files)
-        → IsSpelledMake words number → IsAsked words files work.done) }
-    ensures file { IfOk result (λ work. (words : List (List ℕ))
-        → HasFiles words work.done work.file work.second) }
-    ensures cause { IfErr result (λ fault. (words : List (List ℕ)) (files : Option Files) (before after : ℕ)
-        → IsSpelledMake words number → IsWorkCause words files before after fault) }
-    ensures no_sink { IfErr result (λ fault. fault ≢ Fault.SinkFailed) }
-{
-    let MadeChip {
-        chip,
-        pairs,
-        aims,
-        verdicts,
-    } = find_made(alloc, number, watch)?;
-    Ok(printed(Done::Make {
-        chip,
-        pairs,
-        aims,
-        verdicts,
-    }))
 }

@@ -13,4 +13,4 @@ pub use laws::limits;
 pub use lines::{check_line, flatten_line, replay_lines, simulate_lines};
 pub use making::{MAKE_BUDGET, MadeChip, find_made};
 pub use replays::{MAX_ORDER, ReplayedChip, find_replay};
-pub use tests::{TestedChip, find_tests};
+pub use tests::{TestedChip, find_tests, generation_fault};

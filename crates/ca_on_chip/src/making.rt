@@ -3,13 +3,13 @@ ghost use Rattle.std.specs.Prelude.{◌≤◌, IfErr, IfOk};
 ghost use Rattle.ca_credit.specs.Good.{IsGood};
 ghost use Rattle.ca_engine.specs.ChipTask.{task_of};
 ghost use Rattle.ca_make.specs.declared.gate.TheConstants.{MOST_GATES};
-ghost use Rattle.ca_on_chip.specs.code.OnChip.{IsTestsStage};
 ghost use Rattle.ca_on_chip.specs.Making.{IsMadeChip, IsMakeStage};
 
+use crate::tests::generation_fault;
 use ca_credit::Verdicts;
 use ca_engine::generate_chip;
 use ca_fault::Fault;
-use ca_generate::{Aims, GenerateFault, Generated, Watch};
+use ca_generate::{Aims, Generated, Watch};
 use ca_linked::Chip;
 use ca_make_laws::{library_is_read, netlist_is_read};
 use ca_make_links::{chip_keeps_rules, made_chip};
@@ -40,17 +40,19 @@ pub fn find_made<T: Watch>(alloc: Global, number: u32, watch: &mut T) -> Result<
     ensures cause { IfErr result (IsMakeStage number) }
 {
     let chip = linked(alloc, number)?;
-    let Generated {
-        pairs,
-        aims,
-        verdicts,
-    } = generated_for(alloc, &chip, watch)?;
-    Ok(MadeChip {
-        chip,
-        pairs,
-        aims,
-        verdicts,
-    })
+    match generate_chip(alloc, &chip, MAKE_BUDGET, watch) {
+        Ok(Generated {
+            pairs,
+            aims,
+            verdicts,
+        }) => Ok(MadeChip {
+            chip,
+            pairs,
+            aims,
+            verdicts,
+        }),
+        Err(fault) => Err(generation_fault(fault)),
+    }
 }
 
 // The generated chip of a number.
@@ -67,19 +69,4 @@ fn linked(alloc: Global, number: u32) -> Result<Chip, Fault>
     let chip = made_chip(alloc, number)?;
     chip.wired();
     Ok(chip)
-}
-
-// What is generated for a chip, or why there is nothing.
-fn generated_for<T: Watch>(alloc: Global, chip: &Chip, watch: &mut T) -> Result<Generated, Fault>
-    ensures good { IfOk result
-        (λ made. IsGood (task_of chip.now MAKE_BUDGET) made.pairs made.aims made.verdicts) }
-    ensures cause { IfErr result (IsTestsStage MAKE_BUDGET chip.now) }
-{
-    match generate_chip(alloc, chip, MAKE_BUDGET, watch) {
-        Ok(made) => Ok(made),
-        Err(GenerateFault::TooManyPairs { pairs, aims }) => {
-            Err(Fault::TooManyPairs { pairs, aims })
-        }
-        Err(GenerateFault::NoMemory) => Err(Fault::NoMemory),
-    }
 }

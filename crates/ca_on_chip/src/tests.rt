@@ -1,8 +1,10 @@
 //! What `atpg` asks for.
-ghost use Rattle.std.specs.Prelude.{◌≡◌, Some, IfErr, IfOk, OnOk};
+ghost use Rattle.std.specs.Prelude.{◌≡◌, ℕ, Some, IfErr, IfOk, OnOk};
 ghost use Rattle.ca_store.specs.Store.{Nothing};
+ghost use Rattle.ca_linked.specs.Linked.{LinkedChip};
 ghost use Rattle.ca_scan.specs.ChainFault.{AreAllChains};
 ghost use Rattle.ca_credit.specs.Good.{IsGood};
+ghost use Rattle.ca_generate.specs.GenerateFault.{IsCause};
 ghost use Rattle.ca_engine.specs.ChipTask.{task_of};
 ghost use Rattle.ca_atpg.specs.Atpg.{IsStil, report_of};
 ghost use Rattle.ca_load.specs.Files.{ReportsStoreFault};
@@ -56,31 +58,19 @@ pub fn find_tests<S: Store, T: Watch>(
     ensures kept { S.files store.new ≡ S.files store.old }
 {
     let Loaded { chip, chains } = load(alloc, &request.files, store)?;
-    let made = tests_of(alloc, &chip, &chains, request.budget, watch)?;
-    Ok(TestedChip { chip, chains, made })
+    match atpg(alloc, &chip, &chains, request.budget, watch) {
+        Ok(made) => Ok(TestedChip { chip, chains, made }),
+        Err(fault) => Err(generation_fault(fault)),
+    }
 }
 
-// The tests of a chip, or why there are none.
-fn tests_of<T: Watch>(
-    alloc: Global,
-    chip: &Chip,
-    chains: &Chains,
-    budget: u32,
-    watch: &mut T,
-) -> Result<Tested, Fault>
-    requires chains { AreAllChains chip.now chains.now }
-
-    ensures good { IfOk result
-        (λ made. IsGood (task_of chip.now budget) made.pairs made.aims made.verdicts) }
-    ensures stil { IfOk result (λ made. IsStil chip.now chains.now made.pairs made.stil) }
-    ensures report { IfOk result (λ made. made.report ≡ report_of chip.now made.verdicts) }
-    ensures cause { IfErr result (IsTestsStage budget chip.now) }
+/// The fault of test generation as one of a command.
+pub fn generation_fault(fault: GenerateFault) -> Fault
+    ensures { (budget : ℕ) (chip : LinkedChip) → IsCause (task_of chip budget) fault
+        → IsTestsStage budget chip result }
 {
-    match atpg(alloc, chip, chains, budget, watch) {
-        Ok(made) => Ok(made),
-        Err(GenerateFault::TooManyPairs { pairs, aims }) => {
-            Err(Fault::TooManyPairs { pairs, aims })
-        }
-        Err(GenerateFault::NoMemory) => Err(Fault::NoMemory),
+    match fault {
+        GenerateFault::TooManyPairs { pairs, aims } => Fault::TooManyPairs { pairs, aims },
+        GenerateFault::NoMemory => Fault::NoMemory,
     }
 }
