@@ -16,7 +16,7 @@ use Rattle.ca_flat.specs.Chip.{IsDefectIn}
 use Rattle.ca_flat.specs.Pair.{bit_count, DetectsAt}
 use Rattle.ca_view.specs.Linked.{IsPlaced, IsPlacedDefect, place_in}
 use Rattle.ca_scan.specs.ChainFault.{AreAllChains}
-use Rattle.ca_search.specs.Filled.{trits_of}
+use Rattle.ca_code.specs.Filled.{trits_of}
 use Rattle.ca_credit.specs.declared.verdict.Verdict.{Verdict}
 use Rattle.ca_credit.specs.declared.verdict.Verdict.TheVariants.{Credited, Unexposable, Untestable, Aborted}
 use Rattle.ca_credit.specs.Detection.{IsFirstOutput}

@@ -3,7 +3,7 @@ use Rattle.std.specs.Prelude.{ℕ, ◌≡◌, ◌<◌, Bool, List, [], length, m
 use Rattle.ca_net.specs.declared.trit.Trit.{Trit}
 use Rattle.ca_flat.specs.declared.chip_defect.ChipDefect.{ChipDefect}
 use Rattle.ca_flat.specs.Chip.{Chip}
-use Rattle.ca_search.specs.Filled.{trits_of}
+use Rattle.ca_code.specs.Filled.{trits_of}
 use Rattle.ca_credit.specs.Defects.{Task, StandsIn, IsDefectAt}
 use Rattle.ca_benches.specs.declared.station.Station.{Station}
 

@@ -5,7 +5,7 @@ ghost use Rattle.std.specs.Prelude.{Some, IsTrue, IsFalse, IfOk};
 ghost use Rattle.std.specs.List.{All};
 ghost use Rattle.ca_flat.specs.declared.chip_defect.ChipDefect.{ChipDefect};
 ghost use Rattle.ca_flat.specs.Pair.{bit_count, IsShown};
-ghost use Rattle.ca_search.specs.Filled.{trits_of};
+ghost use Rattle.ca_code.specs.Filled.{trits_of};
 ghost use Rattle.ca_credit.specs.Defects.{IsExposableIn};
 ghost use Rattle.ca_credit.specs.Detection.{IsNetEnd, IsAllowedByRows, AreDetectedAlike, IsDecided};
 ghost use Rattle.ca_generate.specs.Outcome.{IsSearchEnd};

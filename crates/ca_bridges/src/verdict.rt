@@ -2,7 +2,7 @@
 
 use ca_base::List;
 use ca_cell::CellRule;
-use ca_search::Code;
+use ca_code::Code;
 
 /// The verdict on a bridge of a library instance.
 #[derive(Drop, Debug)]

@@ -13,15 +13,15 @@ use Rattle.ca_flat.specs.Pair.{bit_count}
 use Rattle.ca_flat.specs.Chain.{IsSupportBit}
 use Rattle.ca_flat.specs.Codes.{Reading, At, Ended, following, after_tree, Reads, IsSpentBy, branch_count}
 use Rattle.ca_flat.proofs.CheckedCodes.{reads_wider}
-use Rattle.ca_search.specs.SearchRules.{search_rules}
+use Rattle.ca_code.specs.SearchRules.{search_rules}
 use Rattle.ca_search.specs.declared.trail.Outcome.TheVariants.{Found, Exhausted, Spent}
 use Rattle.ca_search.specs.Judged.{Judged, IsSameAim, with_pair}
 use Rattle.ca_search.specs.Outcome.{IsOutcome}
-use Rattle.ca_search.specs.Filled.{filled}
-use Rattle.ca_search.proofs.RuleLemmas.{search_codes_are_codes_lem}
+use Rattle.ca_code.specs.Filled.{filled}
+use Rattle.ca_code.proofs.RuleLemmas.{search_codes_are_codes_lem}
 use Rattle.ca_credit.specs.Defects.{IsSearchable}
-use Rattle.ca_generate.specs.Laws.{judged_for}
-use Rattle.ca_generate.proofs.SearchLemmas.{outcome_is_search_lem}
+use Rattle.ca_search.specs.Ends.{judged_for}
+use Rattle.ca_search.proofs.EndLemmas.{outcome_is_search_lem}
 use Rattle.ca_generate.proofs.FoundLemmas.{found_detects, length-found, found_pair}
 use Rattle.ca_certify.specs.Laws.{SearchCodesAreClaimed}
 use Rattle.ca_claim.specs.declared.claim.Claim.TheVariants.{Untestable, Aborted}
@@ -74,8 +74,9 @@ nothing_found judged budget code defect aimed known within outcome =
     let here : IsOutcome (judged_for chip judged.places defect judged.pair) budget code Found =
     subst (λ (aim : Option ChipDefect). IsOutcome (record { chip = judged.chip; places = judged.places; aim = aim; pair = judged.pair })
     budget code Found) aimed outcome in
-    let search = outcome_is_search_lem chip budget judged.places defect code judged.pair Found known.searchable within here in
-    let found = found_pair chip budget defect code judged.pair (filled judged.pair) search refl in
+    let searchable = known.searchable in
+    let search = outcome_is_search_lem chip searchable.rank budget judged.places defect code judged.pair Found searchable.is_flat within here in
+    let found = found_pair chip budget defect code judged.pair (filled judged.pair) within search.ends refl in
     known.untestable (filled judged.pair) (length-found chip budget defect (filled judged.pair) found)
     (found_detects chip budget defect (filled judged.pair) found)
 

@@ -5,7 +5,7 @@ use Rattle.ca_flat.specs.declared.token.Token.{Token}
 use Rattle.ca_flat.specs.Chip.{Chip}
 use Rattle.ca_flat.specs.Codes.{IsWholeBy, IsSpentBy}
 use Rattle.ca_read_code.specs.ClaimedCode.{claim_rules}
-use Rattle.ca_search.specs.SearchRules.{search_rules}
+use Rattle.ca_code.specs.SearchRules.{search_rules}
 use Rattle.ca_credit.specs.Defects.{Task, IsOfOneChip}
 use Rattle.ca_credit.specs.Good.{IsGood}
 use Rattle.ca_claim.specs.declared.claim.Claim.{Claim}

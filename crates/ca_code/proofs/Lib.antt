@@ -1,1 +1,3 @@
 pub mod TokenLemmas
+pub mod FilledLemmas
+pub mod RuleLemmas

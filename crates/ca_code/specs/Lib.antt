@@ -1,1 +1,5 @@
 pub mod Tokens
+pub mod Filled
+pub mod SearchRules
+pub mod Ends
+pub mod Laws

@@ -7,7 +7,7 @@ use Rattle.ca_flat.proofs.Codes.{no_code_is_spent_lem, pattern_bits_are_enough_l
 use Rattle.ca_flat.proofs.Filled.{detected_is_exposable_lem}
 use Rattle.ca_flat.proofs.PlainAbove.{suspect_is_allowed_lem}
 use Rattle.ca_credit.specs.Defects.{Task, IsDefectAt}
-use Rattle.ca_search.specs.Filled.{trits_of}
+use Rattle.ca_code.specs.Filled.{trits_of}
 use Rattle.ca_credit.specs.Good.{IsAmple}
 use Rattle.ca_credit.specs.Laws.{UnexposableIsUndetected, AmpleIsNeverAborted, PatternBitsAreNeverAborted}
 use Rattle.ca_credit.specs.Laws.{SuspectIsAllowedByRows}

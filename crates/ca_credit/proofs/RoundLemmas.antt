@@ -13,7 +13,7 @@ use Rattle.ca_flat.specs.Pair.{DetectsAt, IsShown}
 use Rattle.ca_credit.specs.declared.verdict.Verdict.{Verdict}
 use Rattle.ca_credit.specs.declared.verdict.Verdict.TheVariants.{Credited, Unexposable, Untestable, Aborted}
 use Rattle.ca_credit.specs.declared.round.Round.{Round}
-use Rattle.ca_search.specs.Filled.{trits_of}
+use Rattle.ca_code.specs.Filled.{trits_of}
 use Rattle.ca_credit.specs.Defects.{Task, IsDefectAt}
 use Rattle.ca_credit.specs.Detection.{AreDetectedAlike, IsFirstOutput}
 use Rattle.ca_credit.specs.Table.{verdict_at, is_open, IsAfterPair}

@@ -8,7 +8,7 @@ use Rattle.ca_flat.specs.Chip.{Chip}
 use Rattle.ca_flat.specs.Pair.{IsShown}
 use Rattle.ca_flat.specs.Codes.{branch_count, IsFront}
 use Rattle.ca_credit.specs.Defects.{Task, IsDefectAt}
-use Rattle.ca_search.specs.Filled.{filled}
+use Rattle.ca_code.specs.Filled.{filled}
 use Rattle.ca_credit.specs.Detection.{Detects}
 
 -- a search found the pair for the defect: a partial pair that is shown, and that is the next one of a front

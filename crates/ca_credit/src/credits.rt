@@ -3,7 +3,7 @@
 ghost use Rattle.std.specs.Prelude.{◌≡◌, ◌↔◌, ◌<◌, ◌≤◌, ◌^◌, ◌+◌, length, slice_set, replicate};
 ghost use Rattle.std.specs.Prelude.{true, None, Some, IfOk, IsTrue};
 ghost use Rattle.ca_flat.specs.Pair.{bit_count};
-ghost use Rattle.ca_search.specs.Filled.{trits_of};
+ghost use Rattle.ca_code.specs.Filled.{trits_of};
 ghost use Rattle.ca_credit.specs.Table.{known_verdicts, AreAllKnown, verdict_at, is_open, IsSettling};
 ghost use Rattle.std.specs.Prelude.{◌-◌, min};
 ghost use Rattle.std.specs.List.{All};

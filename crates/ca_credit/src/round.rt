@@ -4,7 +4,7 @@ ghost use Rattle.std.specs.Prelude.{ℕ, ◌≡◌, ◌↔◌, ◌<◌, ◌≤�
 ghost use Rattle.std.specs.Prelude.{true, false, List, Bool, None, Some, IsSome, IfOk, IsTrue, IsFalse};
 ghost use Rattle.ca_places.specs.PlaceSet.{Has, HasRoomFor, IsAsRoomy};
 ghost use Rattle.ca_flat.specs.declared.chip_defect.ChipDefect.{ChipDefect};
-ghost use Rattle.ca_search.specs.Filled.{trits_of};
+ghost use Rattle.ca_code.specs.Filled.{trits_of};
 ghost use Rattle.ca_credit.specs.Defects.{Task, IsDefectAt};
 ghost use Rattle.ca_credit.specs.Table.{verdict_at, is_open, CreditsIn, CreditsPair};
 ghost use Rattle.ca_credit.specs.Table.{credit_count};

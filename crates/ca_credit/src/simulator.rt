@@ -15,7 +15,7 @@ pub trait Simulator {
     ghost use Rattle.ca_flat.specs.Chip.{Chip};
     ghost use Rattle.ca_flat.specs.Pair.{bit_count, IsShown};
     ghost use Rattle.ca_credit.specs.Defects.{Task, StandsIn, IsDefectAt};
-    ghost use Rattle.ca_search.specs.Filled.{trits_of};
+    ghost use Rattle.ca_code.specs.Filled.{trits_of};
     ghost use Rattle.ca_credit.specs.Detection.{IsNetEnd, IsAllowedByRows, AreDetectedAlike};
     ghost use Rattle.ca_credit.specs.Detection.{IsDecided};
     ghost use Rattle.ca_credit.specs.ToTry.{AreWithin, IsNextToTry};

@@ -4,7 +4,7 @@ ghost use Rattle.std.specs.Prelude.{◌≡◌, ◌<◌, ◌+◌, ◌^◌, length
 ghost use Rattle.std.specs.List.{All};
 ghost use Rattle.ca_flat.specs.Pair.{bit_count};
 ghost use Rattle.ca_credit.specs.Defects.{IsOfOneChip};
-ghost use Rattle.ca_search.specs.Filled.{trits_of};
+ghost use Rattle.ca_code.specs.Filled.{trits_of};
 ghost use Rattle.ca_diag.specs.Candidates.{AreCandidates, AreLoggedWithin};
 ghost use Rattle.ca_diag.specs.code.Failing.{AreByPair};
 ghost use Rattle.ca_diag.specs.code.Pass.{AreAll, AreOpen, IsPass};

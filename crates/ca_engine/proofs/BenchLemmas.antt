@@ -32,8 +32,9 @@ use Rattle.ca_sweep.specs.Found.{IsNextFound}
 use Rattle.ca_search.specs.declared.trail.Outcome.TheVariants.{Found, Exhausted, Spent}
 use Rattle.ca_generate.specs.declared.search_end.SearchEnd.{SearchEnd}
 use Rattle.ca_generate.specs.declared.search_end.SearchEnd.TheVariants as end
-use Rattle.ca_generate.specs.Outcome.{IsSearch, IsSearchEnd, IsSpentSearch}
-use Rattle.ca_generate.specs.Laws.{OutcomeIsSearch}
+use Rattle.ca_code.specs.Ends.{IsSpentSearch}
+use Rattle.ca_search.specs.Ends.{IsSearch, OutcomeIsSearch}
+use Rattle.ca_generate.specs.Outcome.{IsSearchEnd}
 use Rattle.ca_engine.specs.ChipBench.{Benched, task_in}
 use Rattle.ca_engine.specs.code.ChipBench.{IsChipBench}
 use Rattle.ca_engine.specs.code.SearchEnd.{IsKept}
@@ -192,8 +193,8 @@ module _ (seen : Seen) (rows_chip : Chip) (defects : Spanned) (outputs : List �
       → IsOutcome (judged_of new) budget code outcome → (d : ChipDefect) → seen.aim ≡ Some d
       → IsSearch seen.chip budget d code new.pair outcome
   search_ends law new budget code outcome same within ends d aimed =
-      law seen.chip budget seen.places d code new.pair outcome
-      (searchable d aimed) within
+      let known = searchable d aimed in
+      law seen.chip known.rank budget seen.places d code new.pair outcome known.is_flat within
       (subst (λ a. IsOutcome (record { chip = seen.chip; places = seen.places; aim = a; pair = new.pair }) budget
       code outcome) aimed (subst (λ judged. IsOutcome judged budget code outcome) same ends))
 

@@ -3,7 +3,7 @@ use Rattle.std.proofs.Common.{◌≡◌, ℕ, zero, suc, List, [], ◌∷◌, le
 use Rattle.std.proofs.lemmas.List.{length-map}
 use Rattle.ca_net.specs.State.{value_at}
 use Rattle.ca_flat.specs.Codes.{bit_trit}
-use Rattle.ca_search.specs.Filled.{trits_of}
+use Rattle.ca_code.specs.Filled.{trits_of}
 
 -- the value of a bit
 pub trit_at : (pair : List Bool) (bit : ℕ) (value : Bool) → slice_get pair bit ≡ Some value

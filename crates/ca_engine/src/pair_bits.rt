@@ -11,7 +11,7 @@ pub(crate) struct PairBits<'a> {
 }
 
 impl Bits for PairBits<'_> {
-    ghost use Rattle.ca_search.specs.Filled.{trits_of};
+    ghost use Rattle.ca_code.specs.Filled.{trits_of};
 
     ghost bits = { λ bits. trits_of bits.pair.now };
 

@@ -2,7 +2,7 @@
 
 ghost use Rattle.std.specs.Prelude.{◌≡◌, ◌<◌, length, IfOk};
 ghost use Rattle.ca_net.specs.State.{value_at};
-ghost use Rattle.ca_search.specs.Filled.{filled, filled_bit};
+ghost use Rattle.ca_code.specs.Filled.{filled, filled_bit};
 ghost use Rattle.ca_engine.specs.code.SearchEnd.{IsKept};
 
 use crate::flip_bench::FlipBench;

@@ -8,7 +8,7 @@ use Rattle.ca_net.specs.declared.trit.Trit.{Trit}
 use Rattle.ca_net.specs.declared.trit.Trit.TheVariants.{X}
 use Rattle.ca_net.specs.State.{value_at}
 use Rattle.ca_flat.specs.Chip.{Chip}
-use Rattle.ca_search.specs.Filled.{trits_of}
+use Rattle.ca_code.specs.Filled.{trits_of}
 use Rattle.ca_credit.specs.Detection.{IsNetEnd}
 use Rattle.ca_expected.specs.Expected.{AreGoodEnds, AreExpected}
 use Rattle.ca_expected.specs.code.Kept.{AreFirstEnds, AreFirstRows}

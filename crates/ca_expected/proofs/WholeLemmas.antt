@@ -12,7 +12,7 @@ use Rattle.ca_flat.specs.declared.token.Token.TheVariants.{Branch, Leaf}
 use Rattle.ca_flat.specs.Pair.{bit_count}
 use Rattle.ca_flat.specs.Codes.{Reading, At, Ended, Rules, Reads, following, after_tree, unset_pair, bit_trit}
 use Rattle.ca_flat.specs.Codes.{with_bit, code_rules}
-use Rattle.ca_search.specs.Filled.{filled_bit}
+use Rattle.ca_code.specs.Filled.{filled_bit}
 use Rattle.ca_credit.specs.Defects.{Task, AreTargets}
 use Rattle.ca_credit.specs.Listed.{IsAim}
 use Rattle.ca_expected.specs.Laws.{AimedPairsAreWhole}

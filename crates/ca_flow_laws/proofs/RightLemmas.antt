@@ -12,7 +12,7 @@ use Rattle.ca_linked.specs.Linked.{LinkedChip, outputs_of}
 use Rattle.ca_core.specs.Core.{core_net, core_of}
 use Rattle.ca_wiring.specs.declared.scan_row.ScanRow.{ScanRow}
 use Rattle.ca_scan.specs.ChainFault.{AreAllChains}
-use Rattle.ca_search.specs.Filled.{trits_of}
+use Rattle.ca_code.specs.Filled.{trits_of}
 use Rattle.ca_credit.specs.declared.limit.TheConstants.{MOST_PAIRS}
 use Rattle.ca_expected.specs.Expected.{AreGoodEnds, AreExpected}
 use Rattle.ca_expected.specs.Wrong.{IsRightAt, IsFirstWrong}

@@ -1,5 +1,5 @@
 -- What a front and a whole code say of definite pairs.
-use Rattle.std.proofs.Common.{◌≡◌, ℕ, zero, suc, ◌<◌, List, [], ◌∷◌, length, Bool, true, false, inl, refl}
+use Rattle.std.proofs.Common.{◌≡◌, ℕ, zero, suc, ◌<◌, ◌≤◌, List, [], ◌∷◌, length, Bool, true, false, inl, refl}
 use Rattle.std.proofs.Common.{sym, ◌∙◌, ap, subst, arith}
 use Rattle.std.specs.Prelude.{not, replicate}
 use Rattle.std.proofs.lemmas.List.{length-replicate, length-set, length-map}
@@ -13,14 +13,13 @@ use Rattle.ca_flat.specs.declared.token.Token.TheVariants.{Branch, Leaf}
 use Rattle.ca_flat.specs.Chip.{Chip}
 use Rattle.ca_flat.specs.Pair.{bit_count}
 use Rattle.ca_flat.specs.Codes.{Reading, At, Ended, unset_pair, bit_trit, following, Rules, Reads, IsFrontBy}
-use Rattle.ca_flat.specs.Codes.{IsWholeCode}
+use Rattle.ca_flat.specs.Codes.{branch_count, IsWholeCode}
 use Rattle.ca_flat.proofs.Codes.{whole_is_ruled_out_lem}
-use Rattle.ca_search.specs.Filled.{trits_of, filled_bit, filled}
-use Rattle.ca_search.proofs.FilledLemmas.{filled_is_shown_lem}
+use Rattle.ca_code.specs.Ends.{IsShownFront}
+use Rattle.ca_code.specs.Filled.{trits_of, filled_bit, filled}
+use Rattle.ca_code.proofs.FilledLemmas.{filled_is_shown_lem}
 use Rattle.ca_credit.specs.Detection.{Detects, IsUntestable}
 use Rattle.ca_credit.specs.Listed.{IsFoundFor}
-use Rattle.ca_search.specs.declared.trail.Outcome.TheVariants.{Found}
-use Rattle.ca_generate.specs.Outcome.{IsSearch}
 
 -- all these pairs have `count` bits
 abbrev AllOf : ℕ → List (List Trit) → Type 0
@@ -89,13 +88,13 @@ whole_is_untestable chip defect code whole pair sized = whole_is_ruled_out_lem c
 
 -- the pair that a search has found
 pub found_pair : (chip : Chip) (budget : ℕ) (defect : ChipDefect) (code : List Token) (partial : List Trit)
-    (pair : List Bool) → IsSearch chip budget defect code partial Found → pair ≡ filled partial
+    (pair : List Bool) → branch_count code ≤ budget → IsShownFront chip defect code partial → pair ≡ filled partial
     → IsFoundFor chip budget defect pair
-found_pair chip budget defect code partial pair search fills = record {
+found_pair chip budget defect code partial pair within ends fills = record {
   partial = partial;
   code = code;
-  front = search.ends.front;
-  within = search.within;
-  shown = search.ends.shown;
+  front = ends.front;
+  within = within;
+  shown = ends.shown;
   fills = fills;
 }

@@ -14,7 +14,7 @@ mod work;
 pub use bench::Bench;
 pub use fault::{Aims, GenerateFault};
 pub use generated::{Generated, generate, generate_knowing};
-pub use laws::{outcome_is_search, too_many_needs_exposable};
+pub use laws::too_many_needs_exposable;
 pub use ruled_out::rule_out;
 pub use search_end::SearchEnd;
 pub use watch::{Unwatched, Watch};

@@ -6,7 +6,7 @@ use ca_flat::Token;
 use ca_generate::{GenerateFault, Generated};
 use ca_lex::Text;
 use ca_pair::Pair;
-use ca_search::Code;
+use ca_code::Code;
 use std::alloc::Global;
 
 // Appends a number below 1,000 with a space before it.

@@ -18,7 +18,7 @@ use Rattle.ca_guide.specs.declared.guide.Step.{Step}
 use Rattle.ca_guide.specs.declared.guide.Step.TheVariants.{Branch, RuledOut}
 use Rattle.ca_guide.specs.Guide.{IsSupport}
 use Rattle.ca_guide.specs.Guide as guide
-use Rattle.ca_search.specs.SearchRules.{IsPlainPair, MayDecide}
+use Rattle.ca_code.specs.SearchRules.{IsPlainPair, MayDecide}
 
 -- a list has a number or doesn't
 has_or_not : (xs : List ℕ) (x : ℕ) → Contains xs x ⊎ (Contains xs x → ⊥)

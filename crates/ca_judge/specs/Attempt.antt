@@ -9,7 +9,7 @@ use Rattle.ca_flat.specs.Pair.{bit_count}
 use Rattle.ca_view.specs.NetLists.{NetLists, AreNetsOf}
 use Rattle.ca_view.specs.Linked.{IsAim, place_in}
 use Rattle.ca_guide.specs.Guide.{Guided, HasRoomFor, IsSupport}
-use Rattle.ca_search.specs.Tokens.{tokens_of}
+use Rattle.ca_code.specs.Tokens.{tokens_of}
 use Rattle.ca_search.specs.Judged.{IsWayHere}
 use Rattle.ca_sim.specs.Seen.{Seen}
 use Rattle.ca_judge.specs.ChipJudge.{judged_of}

@@ -15,7 +15,7 @@ use Rattle.ca_flat.specs.Codes.{At, Ended, bit_trit, unset_pair, with_bit, after
 use Rattle.ca_flat.specs.Codes.{IsWholeBy}
 use Rattle.ca_flat.proofs.Codes.{support_within}
 use Rattle.ca_search.specs.declared.trail.Decision.{Decision}
-use Rattle.ca_search.specs.SearchRules.{rules_for, MayLeaveFor, MayDecideFor}
+use Rattle.ca_code.specs.SearchRules.{rules_for, MayLeaveFor, MayDecideFor}
 use Rattle.ca_search.specs.Judged.{Judged, with_pair, IsSameAim, IsSettledFor, IsPlainFor}
 use Rattle.ca_search.specs.code.Judged.{MayLeaveHere}
 use Rattle.ca_search.specs.code.Judged.{MayDecideHere}

@@ -10,9 +10,9 @@ use Rattle.ca_flat.specs.Codes.{unset_pair, with_bit, branch_count, IsFrontBy, I
 use Rattle.ca_search.specs.declared.trail.Decision.{Decision}
 use Rattle.ca_search.specs.Judged.{Judged, with_pair, IsSameAim}
 use Rattle.ca_search.specs.code.Judged.{MayLeaveHere, MayDecideHere}
-use Rattle.ca_search.specs.Tokens.{token_of, tokens_of}
+use Rattle.ca_code.specs.Tokens.{token_of, tokens_of}
 use Rattle.ca_search.specs.declared.trail.Trail.{Trail}
-use Rattle.ca_search.specs.SearchRules.{rules_for}
+use Rattle.ca_code.specs.SearchRules.{rules_for}
 use Rattle.ca_search.specs.code.Steps.{AreFresh, Follows, still_later, Stands, TrailStands, IsEmptied, TurnsTo}
 use Rattle.ca_search.specs.code.Steps.{IsTurn}
 use Rattle.ca_search.specs.code.Steps.{IsLeft}

@@ -17,16 +17,16 @@ use Rattle.ca_flat.specs.Waves.{IsFlatChip}
 use Rattle.ca_flat.specs.Codes.{At, bit_trit, unset_pair, with_bit, Reads, branch_count, IsFrontBy}
 use Rattle.ca_flat.proofs.Codes.{support_within, bit_other, length-with_bit}
 use Rattle.ca_flat.proofs.Completions.{shown_is_kept_lem}
-use Rattle.ca_search.specs.SearchRules.{search_rules, rules_for, MayLeave}
+use Rattle.ca_code.specs.SearchRules.{search_rules, rules_for, MayLeave}
 use Rattle.ca_search.specs.FreeWay.{MaySet, IsFreeWay, FreeWayIsFront}
-use Rattle.ca_search.specs.Filled.{filled, trits_of}
+use Rattle.ca_code.specs.Filled.{filled, trits_of}
 use Rattle.ca_search.specs.Judged.{Judged, with_pair, IsShownFor, IsFlatFor}
 use Rattle.ca_search.specs.code.Judged.{MaySetFor, MaySetHere, IsUnshownHere}
 use Rattle.ca_search.specs.Judged.{IsFreeWayFor, IsWayHere}
-use Rattle.ca_search.specs.Tokens.{token_of, tokens_of}
+use Rattle.ca_code.specs.Tokens.{token_of, tokens_of}
 use Rattle.ca_code.proofs.TokenLemmas.{tokens_push, tokens_counted}
-use Rattle.ca_search.proofs.FilledLemmas.{filled_above, filled_at}
-use Rattle.ca_search.proofs.RuleLemmas.{leaf_is_ruled_out}
+use Rattle.ca_code.proofs.FilledLemmas.{filled_above, filled_at}
+use Rattle.ca_code.proofs.RuleLemmas.{leaf_is_ruled_out}
 use Rattle.ca_search.proofs.WalkLemmas.{length-unset, set_back}
 
 -- a bit that was unset may have any value

@@ -11,7 +11,7 @@ use Rattle.ca_flat.specs.Chain.{IsSupportBit}
 use Rattle.ca_flat.specs.Pair.{IsShown}
 use Rattle.ca_flat.specs.Waves.{IsFlatChip}
 use Rattle.ca_flat.specs.Codes.{unset_pair, with_bit, IsFrontBy}
-use Rattle.ca_search.specs.SearchRules.{search_rules}
+use Rattle.ca_code.specs.SearchRules.{search_rules}
 
 -- the bit is an unset one of the support
 pub record MaySet (chip : Chip) (defect : ChipDefect) (pair : List Trit) (bit : ℕ) : Type 0 where

@@ -9,7 +9,7 @@ use Rattle.ca_guide.specs.declared.guide.Step.{Step}
 use Rattle.ca_guide.specs.declared.guide.Step.TheVariants.{Branch, RuledOut}
 use Rattle.ca_search.specs.declared.judge.Standing.{Standing}
 use Rattle.ca_search.specs.declared.judge.Standing.TheVariants.{Shown, Settled, Open}
-use Rattle.ca_search.specs.SearchRules.{IsPlainPair, MayDecideFor}
+use Rattle.ca_code.specs.SearchRules.{IsPlainPair, MayDecideFor}
 use Rattle.ca_search.specs.FreeWay.{IsFreeWay}
 use Rattle.ca_flat.specs.declared.token.Token.{Token}
 use Rattle.ca_flat.specs.Codes.{unset_pair}

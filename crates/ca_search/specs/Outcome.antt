@@ -4,7 +4,7 @@ use Rattle.ca_flat.specs.declared.token.Token.{Token}
 use Rattle.ca_flat.specs.Codes.{IsWholeBy, IsFrontBy, IsSpentBy}
 use Rattle.ca_search.specs.declared.trail.Outcome.{Outcome}
 use Rattle.ca_search.specs.declared.trail.Outcome.TheVariants.{Found, Exhausted, Spent}
-use Rattle.ca_search.specs.SearchRules.{rules_for}
+use Rattle.ca_code.specs.SearchRules.{rules_for}
 use Rattle.ca_search.specs.Judged.{Judged, IsShownFor}
 
 -- the budget of branches, and the code that was written

@@ -20,7 +20,7 @@ pub trait Judge {
     ghost use Rattle.ca_code.specs.declared.token.TheConstants.{MOST_PATTERN_BITS};
     ghost use Rattle.ca_search.specs.Judged.{Judged, with_pair, IsOpenFor, IsStanding, IsStep, IsFlatFor};
     ghost use Rattle.ca_search.specs.Judged.{IsSameAim, IsFoundWay};
-    ghost use Rattle.ca_search.specs.Tokens.{tokens_of};
+    ghost use Rattle.ca_code.specs.Tokens.{tokens_of};
 
     /// The chip, the defect that is aimed at, and the bits that are set.
     ghost judged: { Self → Judged };

@@ -1,25 +1,14 @@
 //! Laws of the definitions, each the contract of a function that does nothing.
 
-ghost use Rattle.ca_search.specs.Filled.{FilledIsShown};
+ghost use Rattle.ca_search.specs.Ends.{OutcomeIsSearch};
 ghost use Rattle.ca_search.specs.FreeWay.{FreeWayIsFront};
-ghost use Rattle.ca_search.specs.Laws.{SearchCodesAreCodes, SearchCodesAreChecked};
-
-/// A code that a search may write is a code.
-pub fn search_codes_are_codes()
-    ensures { SearchCodesAreCodes }
-{}
-
-/// It can't be that a code which a search may write isn't a checked code.
-pub fn search_codes_are_checked()
-    ensures { SearchCodesAreChecked }
-{}
-
-/// Where a partial pair shows the defect, so does the pair that it gives when its unset bits are filled.
-pub fn filled_is_shown()
-    ensures { FilledIsShown }
-{}
 
 /// A free way to a pair that shows the defect is a front.
 pub fn free_way_is_front()
     ensures { FreeWayIsFront }
+{}
+
+/// What a search answers for a defect is the end of a search for it.
+pub fn outcome_is_search()
+    ensures { OutcomeIsSearch }
 {}

@@ -9,8 +9,6 @@ mod walk;
 
 pub use ca_code::{Code, MOST_PATTERN_BITS};
 pub use judge::{Judge, Standing};
-pub use laws::{
-    filled_is_shown, free_way_is_front, search_codes_are_checked, search_codes_are_codes,
-};
+pub use laws::{free_way_is_front, outcome_is_search};
 pub use search::Search;
 pub use trail::Outcome;

@@ -4,7 +4,7 @@ ghost use Rattle.std.specs.Prelude.{◌≡◌, ◌+◌, ◌*◌, ◌<◌, ◌≤
 ghost use Rattle.ca_flat.specs.Codes.{branch_count};
 ghost use Rattle.ca_search.specs.Judged.{IsSameAim};
 ghost use Rattle.ca_search.specs.code.Judged.{MayLeaveHere, MayDecideHere};
-ghost use Rattle.ca_search.specs.Tokens.{tokens_of};
+ghost use Rattle.ca_code.specs.Tokens.{tokens_of};
 ghost use Rattle.ca_search.specs.Outcome.{IsOutcome};
 ghost use Rattle.ca_search.specs.code.Steps.{Follows, TrailStands, IsEmptied, IsSameRoom};
 ghost use Rattle.ca_search.specs.code.Steps.{IsMove, IsTurn, IsLeft};

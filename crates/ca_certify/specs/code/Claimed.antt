@@ -5,7 +5,7 @@ use Rattle.ca_flat.specs.declared.chip_defect.ChipDefect.{ChipDefect}
 use Rattle.ca_flat.specs.declared.token.Token.{Token}
 use Rattle.ca_flat.specs.Chip.{Chip}
 use Rattle.ca_flat.specs.Codes.{IsWholeBy, IsSpentBy, IsSpentCode}
-use Rattle.ca_search.specs.SearchRules.{search_rules}
+use Rattle.ca_code.specs.SearchRules.{search_rules}
 use Rattle.ca_credit.specs.declared.verdict.Verdict.{Verdict}
 use Rattle.ca_credit.specs.declared.verdict.Verdict.TheVariants as verdict
 use Rattle.ca_credit.specs.Defects.{IsExposableIn, IsSearchable}

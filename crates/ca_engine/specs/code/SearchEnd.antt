@@ -2,7 +2,7 @@
 use Rattle.std.specs.Prelude.{◌≡◌, List}
 use Rattle.ca_net.specs.declared.trit.Trit.{Trit}
 use Rattle.ca_flat.specs.declared.token.Token.{Token}
-use Rattle.ca_search.specs.Filled.{filled}
+use Rattle.ca_code.specs.Filled.{filled}
 use Rattle.ca_search.specs.declared.trail.Outcome.{Outcome}
 use Rattle.ca_search.specs.declared.trail.Outcome.TheVariants.{Found, Exhausted, Spent}
 use Rattle.ca_generate.specs.declared.search_end.SearchEnd.{SearchEnd}

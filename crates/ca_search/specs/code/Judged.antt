@@ -4,7 +4,7 @@ use Rattle.ca_net.specs.declared.trit.Trit.{Trit}
 use Rattle.ca_flat.specs.declared.chip_defect.ChipDefect.{ChipDefect}
 use Rattle.ca_flat.specs.Chip.{Chip}
 use Rattle.ca_search.specs.FreeWay.{MaySet}
-use Rattle.ca_search.specs.SearchRules.{MayLeaveFor, MayDecideFor}
+use Rattle.ca_code.specs.SearchRules.{MayLeaveFor, MayDecideFor}
 use Rattle.ca_search.specs.Judged.{Judged, IsShownFor}
 
 -- a leaf is allowed at the pair in hand

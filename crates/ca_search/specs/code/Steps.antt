@@ -10,10 +10,10 @@ use Rattle.ca_search.specs.declared.trail.Decision.{Decision}
 use Rattle.ca_search.specs.declared.walk.Move.{Move}
 use Rattle.ca_search.specs.declared.walk.Move.TheVariants.{Stop, Leave, Branch}
 use Rattle.ca_search.specs.declared.trail.Trail.{Trail}
-use Rattle.ca_search.specs.SearchRules.{rules_for}
+use Rattle.ca_code.specs.SearchRules.{rules_for}
 use Rattle.ca_search.specs.Judged.{Judged, IsShownFor}
 use Rattle.ca_search.specs.code.Judged.{MayLeaveHere, MayDecideHere}
-use Rattle.ca_search.specs.Tokens.{tokens_of}
+use Rattle.ca_code.specs.Tokens.{tokens_of}
 use Rattle.ca_search.specs.Outcome.{Searched}
 
 -- the pair with the decisions, the oldest of which comes first

@@ -4,7 +4,7 @@ use Rattle.std.proofs.lemmas.List.{length-set, length-map}
 use Rattle.ca_credit.specs.Defects.{Task}
 use Rattle.ca_flat.specs.Pair.{bit_count}
 use Rattle.ca_benches.proofs.ListLemmas.{map_same, firsts_more, firsts_all, at_each}
-use Rattle.ca_search.specs.Filled.{trits_of}
+use Rattle.ca_code.specs.Filled.{trits_of}
 use Rattle.ca_benches.proofs.parts.load_all.Goals as goal
 
 pub load-requires : goal.load-requires

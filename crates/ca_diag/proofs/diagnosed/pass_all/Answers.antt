@@ -1,7 +1,7 @@
 use Rattle.std.proofs.Common.{◌≡◌, ◌<◌, ◌+◌, ◌^◌, ◌∙◌, length, ℕ, List, sym, subst}
 use Rattle.std.specs.List.{All}
 use Rattle.ca_credit.specs.Defects.{Task, IsOfOneChip}
-use Rattle.ca_search.specs.Filled.{trits_of}
+use Rattle.ca_code.specs.Filled.{trits_of}
 use Rattle.ca_diag.specs.declared.candidate.Candidate.{Candidate}
 use Rattle.ca_diag.specs.code.Failing.{outputs_at}
 use Rattle.ca_diag.specs.code.Pass.{IsPass}

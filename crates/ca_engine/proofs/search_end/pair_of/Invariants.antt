@@ -1,5 +1,5 @@
 use Rattle.std.proofs.Common.{◌≡◌, take, map}
-use Rattle.ca_search.specs.Filled.{filled_bit}
+use Rattle.ca_code.specs.Filled.{filled_bit}
 use Rattle.ca_engine.proofs.search_end.pair_of.Given as goal
 
 abbrev pub invariant-loop-bit : goal.invariant-loop-bit

@@ -1,7 +1,7 @@
 use Rattle.std.proofs.Common.{List, [], ◌∙◌, ap, subst}
 use Rattle.std.proofs.lemmas.List.{get_or_default}
 use Rattle.ca_net.specs.declared.trit.Trit.{Trit}
-use Rattle.ca_search.specs.Filled.{trits_of}
+use Rattle.ca_code.specs.Filled.{trits_of}
 use Rattle.ca_credit.specs.Defects.{Task}
 use Rattle.ca_expected.specs.Expected.{AreGoodEnds}
 use Rattle.ca_expected.proofs.PushLemmas.{row_more}

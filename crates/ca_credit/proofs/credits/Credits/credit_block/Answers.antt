@@ -1,6 +1,6 @@
 use Rattle.std.proofs.Common.{rules, arith, ◌<◌, ◌+◌, ◌∙◌, length, refl, sym, ap, subst, Some, []}
 use Rattle.std.proofs.lemmas.Option.{slice_get-get_or}
-use Rattle.ca_search.specs.Filled.{trits_of}
+use Rattle.ca_code.specs.Filled.{trits_of}
 use Rattle.ca_credit.specs.Table.{Begins}
 use Rattle.ca_credit.specs.Aims.{AimsOverBlock}
 use Rattle.ca_credit.proofs.AimLemmas.{block_aims_begin, block_aims_more, bits_after_more, aimed_after_more}

@@ -1,5 +1,5 @@
 use Rattle.std.proofs.Common.{subst, Option, ℕ}
-use Rattle.ca_search.specs.Filled.{trits_of}
+use Rattle.ca_code.specs.Filled.{trits_of}
 use Rattle.ca_credit.specs.Detection.{IsAnswer}
 use Rattle.ca_credit.proofs.round.Round.give.Goals as goal
 

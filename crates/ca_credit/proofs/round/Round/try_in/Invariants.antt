@@ -1,5 +1,5 @@
 use Rattle.std.proofs.Common.{◌≡◌, ◌<◌, ◌≤◌, ◌+◌, ◌-◌, ℕ, length}
-use Rattle.ca_search.specs.Filled.{trits_of}
+use Rattle.ca_code.specs.Filled.{trits_of}
 use Rattle.ca_places.specs.PlaceSet.{Has}
 use Rattle.ca_credit.specs.code.Round.{IsRound, IsTried}
 use Rattle.ca_credit.specs.Table.{credit_count}

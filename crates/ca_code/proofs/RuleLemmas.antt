@@ -13,8 +13,8 @@ use Rattle.ca_flat.proofs.Detected.{some_good, some_faulty}
 use Rattle.ca_flat.proofs.Completions.{settled_is_ruled_out_lem}
 use Rattle.ca_flat.proofs.RuledOut.{plain_is_ruled_out_lem}
 use Rattle.ca_flat.proofs.CheckedCodes.{plain_is_of_pair_lem}
-use Rattle.ca_search.specs.SearchRules.{IsPlainPair, MayLeave, MayDecide}
-use Rattle.ca_search.specs.Laws.{SearchCodesAreCodes, SearchCodesAreChecked}
+use Rattle.ca_code.specs.SearchRules.{IsPlainPair, MayLeave, MayDecide}
+use Rattle.ca_code.specs.Laws.{SearchCodesAreCodes, SearchCodesAreChecked}
 
 -- tokens that stricter rules allow are allowed
 reads_wider : (strict wide : Rules) → ((pair : List Trit) → strict.leaf pair → wide.leaf pair)

@@ -7,7 +7,7 @@ use Rattle.ca_net.specs.Trit.{IsBelow}
 use Rattle.ca_net.specs.State.{value_at}
 use Rattle.ca_flat.specs.Codes.{bit_trit}
 use Rattle.ca_flat.proofs.Completions.{shown_is_kept_lem}
-use Rattle.ca_search.specs.Filled.{filled_bit, filled, trits_of, FilledIsShown}
+use Rattle.ca_code.specs.Filled.{filled_bit, filled, trits_of, FilledIsShown}
 
 below_filled : (t : Trit) → IsBelow t (bit_trit (filled_bit t))
 below_filled Zero = inr refl

@@ -7,7 +7,7 @@ use Rattle.ca_flat.specs.Chip.{Chip}
 use Rattle.ca_flat.specs.Waves.{IsFlatChip}
 use Rattle.ca_flat.specs.Codes.{IsWholeBy, IsFrontBy, IsSpentBy, IsWholeCode, IsFront, IsSpentCode}
 use Rattle.ca_flat.specs.CheckedCode.{checked_rules}
-use Rattle.ca_search.specs.SearchRules.{search_rules}
+use Rattle.ca_code.specs.SearchRules.{search_rules}
 
 -- a code by the rules of a search is a code: a whole one is whole, a front is one, and a spent one is spent
 pub record SearchIsCode (chip : Chip) (defect : ChipDefect) (code : List Token) : Type 0 where

@@ -1,5 +1,0 @@
-use Rattle.ca_search.proofs.FilledLemmas.{filled_is_shown_lem}
-use Rattle.ca_search.proofs.laws.filled_is_shown.Goals as goal
-
-pub returns : goal.returns
-returns c = filled_is_shown_lem
