@@ -8,12 +8,12 @@ use Rattle.ca_flat.specs.Detection.{trits_of}
 use Rattle.ca_merged.specs.Bridge.{BridgeDetectsAt}
 use Rattle.ca_linked.specs.Linked.{outputs_of}
 use Rattle.ca_core.specs.Core.{core_net, core_of}
-use Rattle.ca_bridge_laws.specs.Bridges.{Ends}
-use Rattle.ca_bridge_laws.specs.Good.{IsFirstBridgeOutput, IsFirstBridgeDetection}
-use Rattle.ca_bridges.specs.declared.verdict.BridgeVerdict.{BridgeVerdict}
-use Rattle.ca_bridges.specs.declared.verdict.BridgeVerdict.TheVariants.{Credited, Unexposable, Untestable, Aborted, Port, Wide}
-use Rattle.ca_bridges.specs.Judged.{ends_of}
-use Rattle.ca_bridges.proofs.TargetLemmas.{some_at}
+use Rattle.ca_bridge_verdicts.specs.Bridges.{Ends}
+use Rattle.ca_bridge_verdicts.specs.Good.{IsFirstBridgeOutput, IsFirstBridgeDetection}
+use Rattle.ca_bridge_verdicts.specs.declared.verdict.BridgeVerdict.{BridgeVerdict}
+use Rattle.ca_bridge_verdicts.specs.declared.verdict.BridgeVerdict.TheVariants.{Credited, Unexposable, Untestable, Aborted, Port, Wide}
+use Rattle.ca_bridge_verdicts.specs.Promise.{ends_of}
+use Rattle.ca_bridge_verdicts.proofs.BridgeLemmas.{some_at}
 use Rattle.ca_chip_report.proofs.LawLemmas.{some_within}
 use Rattle.ca_bridge_report.specs.BridgeReport.{IsWithin}
 use Rattle.ca_bridge_report.specs.Laws.{GoodBridgesAreReported}

@@ -10,8 +10,8 @@ use Rattle.ca_linked.specs.declared.parts.Part.{Part}
 use Rattle.ca_linked.specs.Linked.{LinkedChip, IsGate}
 use Rattle.ca_cluster.specs.declared.bridge.Bridge.{Bridge}
 use Rattle.ca_cluster.specs.Bridges.{IsKnown}
-use Rattle.ca_bridges.specs.declared.verdict.BridgeVerdict.{BridgeVerdict}
-use Rattle.ca_bridges.specs.declared.verdict.BridgeVerdict.TheVariants.{Credited, Unexposable, Untestable, Aborted, Port, Wide}
+use Rattle.ca_bridge_verdicts.specs.declared.verdict.BridgeVerdict.{BridgeVerdict}
+use Rattle.ca_bridge_verdicts.specs.declared.verdict.BridgeVerdict.TheVariants.{Credited, Unexposable, Untestable, Aborted, Port, Wide}
 use Rattle.ca_report.specs.declared.rows.ReportRow.{ReportRow}
 use Rattle.ca_report.specs.Report.{IsVerdictOf, IsRowOf}
 use Rattle.ca_bridge_report.specs.BridgeReport.{reported_of, bridge_row, bridge_rows, IsWithin}

@@ -7,9 +7,9 @@ use Rattle.ca_outputs.specs.Outputs.{output_names}
 use Rattle.ca_cluster.specs.declared.bridge.Bridge.{Bridge}
 use Rattle.ca_cluster.specs.Bridges.{bridge_name}
 use Rattle.ca_targets.specs.Targets.{AreKnown}
-use Rattle.ca_bridges.specs.declared.verdict.BridgeVerdict.{BridgeVerdict}
-use Rattle.ca_bridges.specs.declared.verdict.BridgeVerdict.TheVariants.{Credited, Unexposable, Untestable}
-use Rattle.ca_bridges.specs.declared.verdict.BridgeVerdict.TheVariants.{Aborted, Port, Wide}
+use Rattle.ca_bridge_verdicts.specs.declared.verdict.BridgeVerdict.{BridgeVerdict}
+use Rattle.ca_bridge_verdicts.specs.declared.verdict.BridgeVerdict.TheVariants.{Credited, Unexposable, Untestable}
+use Rattle.ca_bridge_verdicts.specs.declared.verdict.BridgeVerdict.TheVariants.{Aborted, Port, Wide}
 use Rattle.ca_report.specs.declared.rows.ReportRow.{ReportRow}
 use Rattle.ca_report.specs.declared.verdict.Verdict as report
 use Rattle.ca_report.specs.declared.verdict.Verdict.TheVariants as reported

@@ -3,8 +3,8 @@ use Rattle.std.specs.Prelude.{ℕ, Bool, List}
 use Rattle.ca_linked.specs.Linked.{LinkedChip}
 use Rattle.ca_cluster.specs.declared.bridge.Bridge.{Bridge}
 use Rattle.ca_targets.specs.Targets.{AreKnown}
-use Rattle.ca_bridges.specs.declared.verdict.BridgeVerdict.{BridgeVerdict}
-use Rattle.ca_bridges.specs.Judged.{AreGoodVerdicts}
+use Rattle.ca_bridge_verdicts.specs.declared.verdict.BridgeVerdict.{BridgeVerdict}
+use Rattle.ca_bridge_verdicts.specs.Promise.{AreGoodVerdicts}
 use Rattle.ca_bridge_report.specs.BridgeReport.{AreReported}
 
 -- verdicts on bridges of library instances that keep their promise may be reported

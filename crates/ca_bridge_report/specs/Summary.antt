@@ -1,9 +1,9 @@
 -- The line that says how many bridges have which verdict, and how many pairs there are.
 use Rattle.std.specs.Prelude.{ℕ, Bool, true, false, List, [], ◌++◌, length, codes}
 use Rattle.std.specs.List.{filter}
-use Rattle.ca_bridges.specs.declared.verdict.BridgeVerdict.{BridgeVerdict}
-use Rattle.ca_bridges.specs.declared.verdict.BridgeVerdict.TheVariants.{Credited, Unexposable, Untestable}
-use Rattle.ca_bridges.specs.declared.verdict.BridgeVerdict.TheVariants.{Aborted, Port, Wide}
+use Rattle.ca_bridge_verdicts.specs.declared.verdict.BridgeVerdict.{BridgeVerdict}
+use Rattle.ca_bridge_verdicts.specs.declared.verdict.BridgeVerdict.TheVariants.{Credited, Unexposable, Untestable}
+use Rattle.ca_bridge_verdicts.specs.declared.verdict.BridgeVerdict.TheVariants.{Aborted, Port, Wide}
 use Rattle.ca_chip_report.specs.Summary.{with_count}
 use Rattle.ca_bridge_report.specs.declared.summary.BridgeKind.{BridgeKind}
 use Rattle.ca_bridge_report.specs.declared.summary.BridgeKind.TheVariants as kind

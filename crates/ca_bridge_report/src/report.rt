@@ -5,7 +5,7 @@ ghost use Rattle.ca_bridge_report.specs.BridgeReport.{AreReported, bridges_repor
 
 use crate::rows::rows_of;
 use ca_base::NoMemory;
-use ca_bridges::BridgeVerdicts;
+use ca_bridge_verdicts::BridgeVerdicts;
 use ca_cluster::BridgeList;
 use ca_lex::Text;
 use ca_linked::Chip;

@@ -7,7 +7,7 @@ ghost use Rattle.ca_chip_report.specs.ChipReport.{instance_name, cell_name};
 ghost use Rattle.ca_bridge_report.specs.BridgeReport.{reported_of, bridge_row, bridge_rows};
 
 use ca_base::{List, NoMemory};
-use ca_bridges::{BridgeVerdict, BridgeVerdicts};
+use ca_bridge_verdicts::{BridgeVerdict, BridgeVerdicts};
 use ca_cluster::{Bridge, BridgeList, bridge_name};
 use ca_lex::Text;
 use ca_linked::Chip;

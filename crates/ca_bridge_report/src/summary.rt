@@ -6,7 +6,7 @@ ghost use Rattle.ca_bridge_report.specs.Summary.{bridge_summary_line, bridges_li
 
 use crate::rows::verdict_at;
 use ca_base::NoMemory;
-use ca_bridges::{BridgeVerdict, BridgeVerdicts};
+use ca_bridge_verdicts::{BridgeVerdict, BridgeVerdicts};
 use ca_chip_report::{add_count, one_if};
 use ca_lex::Text;
 use std::alloc::Global;

@@ -23,20 +23,21 @@ use Rattle.ca_credit.specs.Good.{IsGood, HasVerdict, HasSupport}
 use Rattle.ca_credit.specs.Good as good
 use Rattle.ca_cluster.specs.declared.bridge.Bridge.{Bridge}
 use Rattle.ca_cluster.specs.Clusters.{IsAtPort, IsOneNode, IsInside, IsWide, IsMergedBy, IsShortFor}
-use Rattle.ca_bridge_laws.specs.Bridges.{Ends, IsForBridge, AreForBridges}
-use Rattle.ca_bridge_laws.specs.Good.{HasBridgeVerdict, AreGoodBridges, IsFirstBridgeDetection, IsUntestableBridge}
-use Rattle.ca_bridge_laws.specs.Laws.{GoodTargetsAreBridges}
+use Rattle.ca_bridge_verdicts.specs.Bridges.{Ends, IsForBridge, AreForBridges}
+use Rattle.ca_bridge_verdicts.specs.Good.{HasBridgeVerdict, AreGoodBridges, IsFirstBridgeDetection, IsUntestableBridge}
+use Rattle.ca_bridge_verdicts.specs.Laws.{GoodTargetsAreBridges}
 use Rattle.ca_targets.specs.declared.target.Target.{Target}
 use Rattle.ca_targets.specs.declared.target.Target.TheVariants as kind
 use Rattle.ca_targets.specs.declared.target.Cluster.{Cluster}
 use Rattle.ca_targets.specs.Targets.{AreTargetsOf}
 use Rattle.ca_targets.specs.Laws.{OneCluster}
-use Rattle.ca_bridges.specs.declared.verdict.BridgeVerdict.{BridgeVerdict}
-use Rattle.ca_bridges.specs.declared.verdict.BridgeVerdict.TheVariants as said
-use Rattle.ca_bridges.specs.Judged as judged
-use Rattle.ca_bridges.specs.Judged.{ends_of, AreGoodVerdicts, IsRightlyAborted, IsSaidWide, IsNeeded, IsCreditedTo, IsAmple}
+use Rattle.ca_bridge_verdicts.specs.declared.verdict.BridgeVerdict.{BridgeVerdict}
+use Rattle.ca_bridge_verdicts.specs.declared.verdict.BridgeVerdict.TheVariants as said
+use Rattle.ca_bridge_verdicts.specs.Promise as judged
+use Rattle.ca_bridge_verdicts.specs.Promise.{ends_of, AreGoodVerdicts, IsRightlyAborted, IsSaidWide, IsNeeded, IsCreditedTo, IsAmple}
 use Rattle.ca_bridges.specs.Numbers.{IsShort, IsPlaceOfShort, AreNumbers, own_word, word_of, ArePut, IsTaskOf, AreAimsAt}
-use Rattle.ca_bridges.proofs.TargetLemmas.{some_at, one_entry, HasTarget, target_of, IsJudgedAt, judged_at, own_at, searched_at}
+use Rattle.ca_bridge_verdicts.proofs.BridgeLemmas.{some_at}
+use Rattle.ca_bridges.proofs.TargetLemmas.{one_entry, HasTarget, target_of, IsJudgedAt, judged_at, own_at, searched_at}
 
 -- which words no target has of itself
 not_credited : (pair output : ℕ) (target : Target) → own_word target ≡ said.Credited pair output → ⊥

@@ -12,7 +12,8 @@ use Rattle.ca_targets.specs.declared.target.Cluster.{Cluster}
 use Rattle.ca_benches.specs.declared.station.Station.{Station}
 use Rattle.ca_bridges.specs.declared.numbers.Numbered.{Numbered}
 use Rattle.ca_bridges.specs.Numbers.{IsShort, AreNumbers, IsStationOf, IsStationFor, AreNumbered, AreAimsUpTo}
-use Rattle.ca_bridges.proofs.TargetLemmas.{some_at, one_entry}
+use Rattle.ca_bridge_verdicts.proofs.BridgeLemmas.{some_at}
+use Rattle.ca_bridges.proofs.TargetLemmas.{one_entry}
 
 -- what holds of each entry holds of all
 pub all_entries : {A : Type 0} (P : A → Type 0) (xs : List A) → ((k : ℕ) (x : A) → slice_get xs k ≡ Some x → P x) → All P xs

@@ -32,7 +32,8 @@ use Rattle.ca_benches.specs.Benches.{task_at, chip_of_station, defect_of, IsStat
 use Rattle.ca_bridges.specs.Numbers.{IsFound, IsStationOf, AreNumbered, IsTaskOf}
 use Rattle.ca_bridges.specs.declared.numbers.Numbered.{Numbered}
 use Rattle.ca_bridges.specs.code.Parts.{AreEach, AreEachFrom, ArePartsOf, AreParts, IsPartOf, StandsInFor, IsGoodFor}
-use Rattle.ca_bridges.proofs.TargetLemmas.{some_at, one_entry}
+use Rattle.ca_bridge_verdicts.proofs.BridgeLemmas.{some_at}
+use Rattle.ca_bridges.proofs.TargetLemmas.{one_entry}
 use Rattle.ca_bridges.proofs.NumberLemmas.{all_entries}
 
 pub each_none : {A B : Type 0} (Is : A → B → Type 0) (xs : List A) → AreEach Is xs 0 []

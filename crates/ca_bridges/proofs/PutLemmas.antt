@@ -6,10 +6,11 @@ use Rattle.std.proofs.lemmas.Option.{slice_get_within}
 use Rattle.ca_credit.specs.declared.verdict.Verdict.{Verdict}
 use Rattle.ca_generate.proofs.ListLemmas.{entry_stays, entry_new}
 use Rattle.ca_targets.specs.declared.target.Target.{Target}
-use Rattle.ca_bridges.specs.declared.verdict.BridgeVerdict.{BridgeVerdict}
+use Rattle.ca_bridge_verdicts.specs.declared.verdict.BridgeVerdict.{BridgeVerdict}
 use Rattle.ca_bridges.specs.Numbers.{IsShort, AreNumbers, own_word, word_of, ArePut}
 use Rattle.ca_bridges.specs.code.Numbers.{IsPutUpTo}
-use Rattle.ca_bridges.proofs.TargetLemmas.{some_at, one_entry}
+use Rattle.ca_bridge_verdicts.proofs.BridgeLemmas.{some_at}
+use Rattle.ca_bridges.proofs.TargetLemmas.{one_entry}
 
 pub put_none : (targets : List Target) (numbers : List ℕ) (given : List Verdict) → IsPutUpTo targets numbers given [] 0 0
 put_none targets numbers given = record {

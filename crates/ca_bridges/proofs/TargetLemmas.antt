@@ -1,5 +1,5 @@
 -- What is at the place of a bridge: its target, and of a short its number, its verdict and its merged chip.
-use Rattle.std.proofs.Common.{◌≡◌, ℕ, zero, suc, ◌<◌, ◌∙◌, List, [], ◌∷◌, length, refl, sym, arith, Some}
+use Rattle.std.proofs.Common.{◌≡◌, ℕ, ◌∙◌, List, length, sym, arith, Some}
 use Rattle.std.specs.Prelude.{slice_get}
 use Rattle.std.proofs.lemmas.Option.{slice_get_within, same_Some}
 use Rattle.ca_flat.specs.declared.chip_defect.ChipDefect.{ChipDefect}
@@ -13,13 +13,9 @@ use Rattle.ca_targets.specs.declared.target.Target.{Target}
 use Rattle.ca_targets.specs.declared.target.Target.TheVariants as kind
 use Rattle.ca_targets.specs.declared.target.Cluster.{Cluster}
 use Rattle.ca_targets.specs.Targets.{IsTarget, AreTargetsOf}
-use Rattle.ca_bridges.specs.declared.verdict.BridgeVerdict.{BridgeVerdict}
+use Rattle.ca_bridge_verdicts.specs.declared.verdict.BridgeVerdict.{BridgeVerdict}
+use Rattle.ca_bridge_verdicts.proofs.BridgeLemmas.{some_at}
 use Rattle.ca_bridges.specs.Numbers.{IsShort, AreNumbers, own_word, word_of, ArePut, IsTaskOf}
-
-pub some_at : {A : Type 0} (xs : List A) (k : ℕ) → k < length xs → (x : A) × (slice_get xs k ≡ Some x)
-some_at [] k lt = absurd (omega (arith, lt))
-some_at (x ∷ xs) zero lt = (x, refl)
-some_at (x ∷ xs) (suc k) lt = some_at xs k (omega (arith, lt))
 
 -- two entries at one place are one
 pub one_entry : {A : Type 0} (xs : List A) (k : ℕ) (x y : A) → slice_get xs k ≡ Some x → slice_get xs k ≡ Some y → x ≡ y

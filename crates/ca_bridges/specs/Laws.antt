@@ -10,9 +10,9 @@ use Rattle.ca_cluster.specs.declared.bridge.Bridge.{Bridge}
 use Rattle.ca_targets.specs.declared.target.Target.{Target}
 use Rattle.ca_targets.specs.declared.target.Cluster.{Cluster}
 use Rattle.ca_targets.specs.Targets.{AreTargetsOf}
-use Rattle.ca_bridges.specs.declared.verdict.BridgeVerdict.{BridgeVerdict}
+use Rattle.ca_bridge_verdicts.specs.declared.verdict.BridgeVerdict.{BridgeVerdict}
 use Rattle.ca_bridges.specs.Numbers.{AreNumbers, IsTaskOf, ArePut, AreAimsAt}
-use Rattle.ca_bridges.specs.Judged.{AreGoodVerdicts}
+use Rattle.ca_bridge_verdicts.specs.Promise.{AreGoodVerdicts}
 
 -- Of bridges that are these targets: where the promise of test generation is kept for their shorts, each of
 -- its cluster's chip, and the verdicts and the aims are put among those of all bridges, the promise of

@@ -1,4 +1,3 @@
-pub mod Judged
 pub mod Numbers
 pub mod Laws
 pub mod code

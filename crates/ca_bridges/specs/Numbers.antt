@@ -12,8 +12,8 @@ use Rattle.ca_targets.specs.declared.target.Target.TheVariants as kind
 use Rattle.ca_targets.specs.declared.target.Cluster.{Cluster}
 use Rattle.ca_benches.specs.declared.station.Station.{Station}
 use Rattle.ca_bridges.specs.declared.numbers.Numbered.{Numbered}
-use Rattle.ca_bridges.specs.declared.verdict.BridgeVerdict.{BridgeVerdict}
-use Rattle.ca_bridges.specs.declared.verdict.BridgeVerdict.TheVariants as said
+use Rattle.ca_bridge_verdicts.specs.declared.verdict.BridgeVerdict.{BridgeVerdict}
+use Rattle.ca_bridge_verdicts.specs.declared.verdict.BridgeVerdict.TheVariants as said
 
 -- the target is a short
 abbrev pub IsShort : Target → Type 0

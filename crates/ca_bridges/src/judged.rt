@@ -6,14 +6,13 @@ ghost use Rattle.ca_flat.specs.Pair.{bit_count};
 ghost use Rattle.ca_core.specs.Core.{core_of};
 ghost use Rattle.ca_credit.specs.declared.limit.TheConstants.{MOST_PAIRS};
 ghost use Rattle.ca_targets.specs.Targets.{AreKnown, AreTargetsOf};
-ghost use Rattle.ca_bridges.specs.Judged.{AreGoodVerdicts};
+ghost use Rattle.ca_bridge_verdicts.specs.Promise.{AreGoodVerdicts};
 
 use crate::generation::generated;
 use crate::numbers::{Numbered, aims_at, number_shorts};
 use crate::put::put_verdicts;
-use crate::verdict::BridgeVerdicts;
 use ca_base::NoMemory;
-use ca_bridge_laws::good_targets_are_bridges;
+use ca_bridge_verdicts::{BridgeVerdicts, good_targets_are_bridges};
 use ca_cluster::BridgeList;
 use ca_core::core_is_chip;
 use ca_credit::MOST_PAIRS;

@@ -7,10 +7,8 @@ mod laws;
 mod numbers;
 mod parts;
 mod put;
-mod verdict;
 
 pub use judged::{Judged, judge};
 pub use laws::shorts_judge_bridges;
 pub use numbers::{Numbered, aims_at, number_shorts};
 pub use put::put_verdicts;
-pub use verdict::{BridgeVerdict, BridgeVerdicts};

@@ -3,8 +3,8 @@
 ghost use Rattle.std.specs.Prelude.{◌≡◌, length, IfOk};
 ghost use Rattle.ca_bridges.specs.Numbers.{own_word, word_of, AreNumbers, ArePut};
 
-use crate::verdict::{BridgeVerdict, BridgeVerdicts};
 use ca_base::{List, NoMemory};
+use ca_bridge_verdicts::{BridgeVerdict, BridgeVerdicts};
 use ca_credit::{Verdict, Verdicts};
 use ca_targets::{Target, TargetList};
 use std::alloc::Global;

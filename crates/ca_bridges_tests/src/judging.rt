@@ -7,7 +7,8 @@ ghost use Rattle.ca_verilog.specs.IsNetlist.{IsNetlist};
 
 use crate::chips::{CASES, LIBRARY};
 use ca_base::NoMemory;
-use ca_bridges::{BridgeVerdict, Judged, judge};
+use ca_bridge_verdicts::BridgeVerdict;
+use ca_bridges::{Judged, judge};
 use ca_cell::StrengthTable;
 use ca_cluster::{Bridge, BridgeList, bridge_name, bridges};
 use ca_generate::Unwatched;

@@ -5,8 +5,8 @@ use Rattle.ca_linked.specs.Linked.{LinkedChip}
 use Rattle.ca_linked.specs.Instances.{IsNamedGate}
 use Rattle.ca_cluster.specs.declared.bridge.Bridge.{Bridge}
 use Rattle.ca_cluster.specs.Bridges.{AreBridgesOf}
-use Rattle.ca_bridges.specs.declared.verdict.BridgeVerdict.{BridgeVerdict}
-use Rattle.ca_bridges.specs.Judged.{AreGoodVerdicts}
+use Rattle.ca_bridge_verdicts.specs.declared.verdict.BridgeVerdict.{BridgeVerdict}
+use Rattle.ca_bridge_verdicts.specs.Promise.{AreGoodVerdicts}
 use Rattle.ca_fault.specs.declared.fault.Fault.{Fault}
 use Rattle.ca_fault.specs.declared.fault.Fault.TheVariants.{NoInstance}
 use Rattle.ca_load.specs.Texts.{InputFiles}

@@ -9,7 +9,7 @@ ghost use Rattle.ca_scan.specs.ChainFault.{AreAllChains};
 ghost use Rattle.ca_atpg.specs.Atpg.{IsStil};
 ghost use Rattle.ca_cluster.specs.Bridges.{AreBridgesOf};
 ghost use Rattle.ca_targets.specs.Targets.{AreKnown};
-ghost use Rattle.ca_bridges.specs.Judged.{AreGoodVerdicts};
+ghost use Rattle.ca_bridge_verdicts.specs.Promise.{AreGoodVerdicts};
 ghost use Rattle.ca_bridge_report.specs.BridgeReport.{bridges_report};
 
 use ca_atpg::stil_over;

@@ -25,7 +25,8 @@ use Rattle.ca_claim.proofs.TrueLemmas.{one_entry}
 use Rattle.ca_certify.specs.Verdicts.{verdict_of, verdicts_of}
 use Rattle.ca_certify.specs.Proven.{AllStand, AreProven}
 use Rattle.ca_certify.specs.Laws.{GoodClaimsStand, StandingIsYes}
-use Rattle.ca_certify.specs.code.Claimed.{IsSpentSearch, IsClaimOn, AreKnown, AreClaimsOn}
+use Rattle.ca_code.specs.Ends.{IsSpentSearch}
+use Rattle.ca_certify.specs.code.Claimed.{IsClaimOn, AreKnown, AreClaimsOn}
 use Rattle.ca_generate.proofs.ListLemmas.{entry_is}
 use Rattle.ca_certify.proofs.CodeLemmas.{search_codes_are_claimed_lem, narrow_tokens}
 

@@ -17,11 +17,12 @@ ghost use Rattle.ca_diagnosing.specs.Diagnosing.{IsLogIn, IsDiagnosedCause};
 ghost use Rattle.ca_diagnosing.specs.code.Stages.{IsJudgedStage};
 
 use crate::logs::open_log;
+use ca_chip_grade::judge_chip;
 use ca_fault::Fault;
 use ca_lex::Text;
 use ca_linked::Chip;
 use ca_log::Log;
-use ca_patterns::{PatternedChip, judge_patterns, load_patterns};
+use ca_patterns::{PatternedChip, load_patterns, value_fault};
 use ca_scan::Chains;
 use ca_stil_pairs::StilFile;
 use ca_store::Store;
@@ -85,7 +86,7 @@ pub(crate) fn load_logged<S: Store>(
 }
 
 // The log that the file of this name has, once the expected values of the patterns were judged.
-#[tactic(auto, using(crate::proofs::DiagnoseLemmas::few_values))]
+#[tactic(auto, using(crate::proofs::DiagnoseLemmas::few_values, ca_patterns::proofs::PatternLemmas::is_small, ca_patterns::proofs::PatternLemmas::at_value))]
 fn judged_log<S: Store>(
     alloc: Global,
     name: &str,
@@ -112,6 +113,14 @@ fn judged_log<S: Store>(
     ensures closed { S.opened store.new ≡ Nothing }
     ensures kept { S.files store.new ≡ S.files store.old }
 {
-    judge_patterns(alloc, chip, chains, file)?;
-    open_log(alloc, name, typed, chip, file.expected.as_slice(), store)
+    match judge_chip(
+        alloc,
+        chip,
+        chains,
+        file.pairs.as_slice(),
+        file.expected.as_slice(),
+    ) {
+        Ok(()) => open_log(alloc, name, typed, chip, file.expected.as_slice(), store),
+        Err(fault) => Err(value_fault(fault)),
+    }
 }

@@ -7,7 +7,7 @@ use Rattle.ca_linked.specs.Linked.{LinkedChip}
 use Rattle.ca_scan.specs.ChainFault.{AreAllChains}
 use Rattle.ca_atpg.specs.Atpg.{IsStil}
 use Rattle.ca_cluster.specs.declared.bridge.Bridge.{Bridge}
-use Rattle.ca_bridges.specs.declared.verdict.BridgeVerdict.{BridgeVerdict}
+use Rattle.ca_bridge_verdicts.specs.declared.verdict.BridgeVerdict.{BridgeVerdict}
 use Rattle.ca_bridge_report.specs.BridgeReport.{bridges_report}
 use Rattle.ca_load.specs.Texts.{InputFiles, names_of}
 use Rattle.ca_load.specs.Causes.{IsLoadCause}

@@ -54,8 +54,8 @@ use Rattle.ca_words.specs.Command.{IsSpelledDefects, IsSpelledMatrix, IsSpelledC
 use Rattle.ca_words.specs.Command.{IsSpelledSimulate, IsSpelledAtpg, IsSpelledReplay, IsSpelledGrade}
 use Rattle.ca_words.specs.Command.{IsSpelledMake, IsSpelled}
 use Rattle.ca_words.specs.code.Command.{IsWhole}
-use Rattle.ca_on_chip.specs.declared.making.TheConstants.{MAKE_BUDGET}
-use Rattle.ca_on_chip.specs.Making.{IsMadeChip, IsMakeStage}
+use Rattle.ca_generating.specs.declared.making.TheConstants.{MAKE_BUDGET}
+use Rattle.ca_generating.specs.Making.{IsMadeChip, IsMakeStage}
 use Rattle.ca_on_chip.specs.OnChip.{IsChipOfFiles, IsTracedChipOf, IsFlatOf, AreEndsOf, IsFlatCause}
 use Rattle.ca_on_chip.specs.OnChip.{IsEndsCause}
 use Rattle.ca_on_chip.specs.OnChip.{IsTestsCause, IsPairsFault}

@@ -49,7 +49,7 @@ use Rattle.ca_on_cell.specs.Cells.{HasCell, LacksCell}
 use Rattle.ca_on_chip.specs.OnChip.{GiveChipWith, OfChip, IsSimulationCause, IsPairsFault}
 use Rattle.ca_on_chip.specs.declared.replays.TheConstants.{MAX_ORDER}
 use Rattle.ca_on_chip.specs.Replay.{HasFaultyLine, HasRun, IsOrderCause}
-use Rattle.ca_on_chip.specs.Making.{IsMakeStage}
+use Rattle.ca_generating.specs.Making.{IsMakeStage}
 use Rattle.ca_simulate.proofs.RunLemmas.{read_or_faulty}
 use Rattle.ca_flow.specs.Complete.{FitsCell, FitsFile, FitsDefect, FitsSimulate, HasEvents, FitsReplay}
 use Rattle.ca_flow.specs.Complete.{FitsBridges, FitsChip}

@@ -9,7 +9,7 @@ use Rattle.ca_patterns.specs.Patterns.{IsPatternsCause}
 use Rattle.ca_words.specs.Words.{cell_files, cell_word, vector_word, first_word, last_word, defect_word, dash, chip_files, stil_word}
 use Rattle.ca_words.specs.Words.{number_word}
 use Rattle.ca_on_cell.specs.Causes.{IsCellCause, IsValueCause}
-use Rattle.ca_on_chip.specs.Making.{IsMakeCause}
+use Rattle.ca_generating.specs.Making.{IsMakeCause}
 use Rattle.ca_flow.specs.Fault.{IsOwnCause, IsWorkCause}
 
 no_scan_words : (scan : Option (List ℕ)) (files : Option Files) (before after : ℕ) → IsScanCause scan files before after BadWords → ⊥

@@ -29,7 +29,7 @@ use Rattle.ca_diagnosing.specs.Diagnosing.{AreCandidatesByFiles}
 use Rattle.ca_certifying.specs.Certifying.{IsCertifiedFor}
 use Rattle.ca_verifying.specs.Verifying.{IsAnswerByFiles, answer_line}
 use Rattle.ca_bridging.specs.Bridging.{AreJudgedFor}
-use Rattle.ca_on_chip.specs.Making.{AreMadeTests}
+use Rattle.ca_generating.specs.Making.{AreMadeTests}
 use Rattle.ca_flow.specs.Fault.{Outside, IsCause}
 use Rattle.ca_flow.specs.Complete.{Completes}
 

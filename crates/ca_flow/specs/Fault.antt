@@ -18,7 +18,7 @@ use Rattle.ca_diagnosing.specs.Diagnosing.{IsDiagnoseCause}
 use Rattle.ca_verifying.specs.Verifying.{IsVerifyCause}
 use Rattle.ca_bridging.specs.Bridging.{IsUnknownInstance}
 use Rattle.ca_on_chip.specs.Replay.{IsReplayCause}
-use Rattle.ca_on_chip.specs.Making.{IsMakeCause}
+use Rattle.ca_generating.specs.Making.{IsMakeCause}
 
 -- what is seen of a store and a sink: the files and the bytes that the sink holds, where they are known, and
 -- how often each failed

@@ -11,7 +11,7 @@ use crate::work::{Work, write_out};
 use ca_atpg::summary_text;
 use ca_base::NoMemory;
 use ca_bridge_report::bridges_line;
-use ca_bridges::BridgeVerdicts;
+use ca_bridge_verdicts::BridgeVerdicts;
 use ca_certifying::certified_line;
 use ca_chip_grade::grades_line;
 use ca_claim::{Answer, Certificate};

@@ -24,12 +24,12 @@ use ca_base::NoMemory;
 use ca_diagnosing::{DiagnosedChip, find_candidates};
 use ca_fault::Fault;
 use ca_generate::Watch;
+use ca_generating::{MadeChip, TestedChip, find_made, find_tests};
 use ca_grading::{GradedChip, find_grades};
 use ca_load::{Loaded, load};
 use ca_on_cell::{find_matrix, find_names, find_values};
 use ca_on_chip::{
-    FlatChip, MadeChip, ReplayedChip, SimulatedChip, TestedChip, find_flat, find_made, find_replay,
-    find_simulation, find_tests,
+    FlatChip, ReplayedChip, SimulatedChip, find_flat, find_replay, find_simulation,
 };
 use ca_store::{Sink, Store};
 use ca_words::{

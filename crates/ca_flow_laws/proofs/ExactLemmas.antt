@@ -8,7 +8,7 @@ use Rattle.ca_fault.specs.declared.fault.Fault.TheVariants.{BadWords, StoreFaile
 use Rattle.ca_load.specs.Texts.{IsCellFile}
 use Rattle.ca_words.specs.Words.{cell_files, IsOnCell, IsOnChip, IsCommand}
 use Rattle.ca_words.proofs.WordLemmas.{no_chip}
-use Rattle.ca_on_chip.specs.Making.{IsMakeStage}
+use Rattle.ca_generating.specs.Making.{IsMakeStage}
 use Rattle.ca_flow.specs.Fault.{Outside, IsWordsCause, IsWriteCause, IsPrintCause, IsWorkCause, IsCause}
 use Rattle.ca_flow_laws.specs.Same.{IsInputFault, IsSame}
 use Rattle.ca_flow_laws.specs.Reported.{IsInputFile, ReportsFiles}

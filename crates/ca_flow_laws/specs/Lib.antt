@@ -3,3 +3,4 @@ pub mod Same
 pub mod Reported
 pub mod Laws
 pub mod Patterns
+pub mod Limits

@@ -2,6 +2,7 @@
 
 ghost use Rattle.std.specs.Prelude.{ℕ, List};
 ghost use Rattle.ca_store.specs.Store.{Files};
+ghost use Rattle.ca_flow_laws.specs.Limits.{FileLimits, ChipLimits, TestLimits, LimitTexts};
 ghost use Rattle.ca_flow_laws.specs.Laws.{HasOneCause, AnswerableHasNoCause, SomeCauseOrAnswer};
 ghost use Rattle.ca_flow_laws.specs.Laws.{CauseIsReported, NamesMeanOneDefect, NeverNeitherOnChip};
 
@@ -43,4 +44,13 @@ pub fn cause_is_reported()
 /// A name means one defect of a cell that was read, on the command line and in the header of a matrix's file.
 pub fn names_mean_one_defect()
     ensures { NamesMeanOneDefect }
+{}
+
+/// The greatest sizes of files and of chips, the limits of test generation, and the numbers that are printed
+/// where one is passed.
+pub fn limits()
+    ensures files { FileLimits }
+    ensures chips { ChipLimits }
+    ensures tests { TestLimits }
+    ensures printed { LimitTexts }
 {}

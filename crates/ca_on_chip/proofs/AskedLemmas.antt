@@ -24,7 +24,7 @@ use Rattle.ca_on_chip.specs.OnChip.{IsVectorWord}
 use Rattle.ca_on_chip.specs.OnChip.{IsSimulationCause, IsFlatCause, IsEndsCause}
 use Rattle.ca_on_chip.specs.code.OnChip.{IsSimulationStage}
 use Rattle.ca_on_chip.specs.OnChip.{IsPairsFault, IsPairsCause, IsTestsCause}
-use Rattle.ca_on_chip.specs.code.OnChip.{IsTestsStage}
+use Rattle.ca_on_chip.specs.OnChip.{IsTestsStage}
 
 -- what holds of the chip of the files
 pub of_chip : (files : Option Files) (names : InputFiles) (chip : LinkedChip) (P : LinkedChip → Type 0)

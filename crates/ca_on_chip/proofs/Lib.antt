@@ -2,4 +2,3 @@ pub mod ChipLemmas
 pub mod LineLemmas
 pub mod AskedLemmas
 pub mod ReplayLemmas
-pub mod MakeLemmas

@@ -116,6 +116,10 @@ IsPairsCause budget (TooManyPairs pairs aims) chip =
     IsCause (task_of chip budget) (generate.TooManyPairs pairs aims)
 IsPairsCause budget _ chip = ⊥
 
+-- the cause of a chip that has none, or there was no memory
+abbrev pub IsTestsStage : ℕ → LinkedChip → Fault → Type 0
+IsTestsStage budget chip fault = (fault ≡ NoMemory) ⊎ IsPairsCause budget fault chip
+
 -- why the chip of the files has none
 abbrev pub AreTooMany : InputFiles → ℕ → Option Files → Fault → Type 0
 AreTooMany names budget files fault = IsPairsFault fault × OfChip files names (IsPairsCause budget fault)

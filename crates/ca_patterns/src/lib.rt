@@ -1,10 +1,10 @@
-//! The patterns of a chip in a named file: read after the chip was linked and traced, and judged.
+//! The patterns of a chip in a named file, read after the chip was linked and traced.
 #![tactic(auto)]
 
-mod judging;
 mod loading;
 mod patterns;
+mod values;
 
-pub use judging::{judge_patterns, value_fault};
 pub use loading::{PatternedChip, load_patterns};
 pub use patterns::{MAX_STIL, open_patterns};
+pub use values::value_fault;

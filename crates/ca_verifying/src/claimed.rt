@@ -15,12 +15,13 @@ ghost use Rattle.ca_verifying.specs.Verifying.{IsCertificateIn, HasOneEach, IsVe
 ghost use Rattle.ca_verifying.specs.code.Stages.{IsJudgedStage};
 
 use crate::certificates::open_certificate;
+use ca_chip_grade::judge_chip;
 use ca_claim::Certificate;
 use ca_fault::Fault;
 use ca_lex::Text;
 use ca_linked::Chip;
 use ca_load::FileNames;
-use ca_patterns::{PatternedChip, judge_patterns, load_patterns};
+use ca_patterns::{PatternedChip, load_patterns, value_fault};
 use ca_scan::Chains;
 use ca_stil_pairs::StilFile;
 use ca_store::Store;
@@ -80,6 +81,7 @@ pub(crate) fn load_claimed<S: Store>(
 }
 
 // The certificate that the file of this name has, once the expected values of the patterns were judged.
+#[tactic(auto, using(ca_patterns::proofs::PatternLemmas::is_small, ca_patterns::proofs::PatternLemmas::at_value))]
 fn judged_certificate<S: Store>(
     alloc: Global,
     name: &str,
@@ -106,6 +108,14 @@ fn judged_certificate<S: Store>(
     ensures closed { S.opened store.new ≡ Nothing }
     ensures kept { S.files store.new ≡ S.files store.old }
 {
-    judge_patterns(alloc, chip, chains, file)?;
-    open_certificate(alloc, name, typed, chip, store)
+    match judge_chip(
+        alloc,
+        chip,
+        chains,
+        file.pairs.as_slice(),
+        file.expected.as_slice(),
+    ) {
+        Ok(()) => open_certificate(alloc, name, typed, chip, store),
+        Err(fault) => Err(value_fault(fault)),
+    }
 }

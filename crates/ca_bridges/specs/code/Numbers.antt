@@ -2,7 +2,7 @@
 use Rattle.std.specs.Prelude.{ℕ, ◌≡◌, ◌<◌, ◌≤◌, List, length, slice_get, Some}
 use Rattle.ca_credit.specs.declared.verdict.Verdict.{Verdict}
 use Rattle.ca_targets.specs.declared.target.Target.{Target}
-use Rattle.ca_bridges.specs.declared.verdict.BridgeVerdict.{BridgeVerdict}
+use Rattle.ca_bridge_verdicts.specs.declared.verdict.BridgeVerdict.{BridgeVerdict}
 use Rattle.ca_bridges.specs.Numbers.{IsShort, own_word, word_of}
 
 -- so it is of the first bridges, before which there are so many shorts

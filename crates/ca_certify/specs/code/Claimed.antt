@@ -4,7 +4,8 @@ use Rattle.ca_code.specs.Tokens.{IsNarrow}
 use Rattle.ca_flat.specs.declared.chip_defect.ChipDefect.{ChipDefect}
 use Rattle.ca_flat.specs.declared.token.Token.{Token}
 use Rattle.ca_flat.specs.Chip.{Chip}
-use Rattle.ca_flat.specs.Codes.{IsWholeBy, IsSpentBy, IsSpentCode}
+use Rattle.ca_flat.specs.Codes.{IsWholeBy}
+use Rattle.ca_code.specs.Ends.{IsSpentSearch}
 use Rattle.ca_code.specs.SearchRules.{search_rules}
 use Rattle.ca_credit.specs.declared.verdict.Verdict.{Verdict}
 use Rattle.ca_credit.specs.declared.verdict.Verdict.TheVariants as verdict
@@ -17,11 +18,6 @@ use Rattle.ca_claim.specs.declared.claim.Claim.TheVariants.{Credited, Unexposabl
 pub record IsHopeless (chip : Chip) (defect : ChipDefect) : Type 0 where
   pub searchable : IsSearchable chip defect
   pub untestable : IsUntestable chip defect
-
--- the code is spent, and is one that a search writes
-pub record IsSpentSearch (chip : Chip) (budget : ℕ) (defect : ChipDefect) (code : List Token) : Type 0 where
-  pub spent : IsSpentCode chip defect budget code
-  pub checked : IsSpentBy (search_rules chip defect) chip budget code
 
 -- the claim has the code of a search for the defect that came to an end, or spent its budget
 abbrev pub IsSearchClaim : Chip → ℕ → ChipDefect → Claim → Type 0

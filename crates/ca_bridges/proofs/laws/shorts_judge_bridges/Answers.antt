@@ -1,5 +1,5 @@
 use Rattle.ca_merged.proofs.Members.{cluster_is_one_lem}
-use Rattle.ca_bridge_laws.proofs.BridgeLemmas.{good_lem}
+use Rattle.ca_bridge_verdicts.proofs.BridgeLemmas.{good_lem}
 use Rattle.ca_targets.proofs.LawLemmas.{one_cluster_lem}
 use Rattle.ca_bridges.proofs.JudgedLemmas.{are_good}
 use Rattle.ca_bridges.proofs.laws.shorts_judge_bridges.Goals as goal

@@ -2,7 +2,7 @@ use Rattle.std.proofs.Common.{◌≡◌, ◌∙◌, ◌+◌, ◌++◌, ◌∷◌
 use Rattle.std.proofs.lemmas.Option.{slice_get_within}
 use Rattle.ca_bridges.specs.Numbers.{own_word, word_of}
 use Rattle.ca_bridges.specs.code.Numbers.{IsPutUpTo}
-use Rattle.ca_bridges.specs.declared.verdict.BridgeVerdict.{BridgeVerdict}
+use Rattle.ca_bridge_verdicts.specs.declared.verdict.BridgeVerdict.{BridgeVerdict}
 use Rattle.ca_bridges.proofs.TargetLemmas.{one_entry}
 use Rattle.ca_bridges.proofs.PutLemmas.{put_short, put_own, none_here, put_done}
 use Rattle.ca_bridges.proofs.put.put_verdicts.Goals as goal

@@ -1,5 +1,0 @@
-use Rattle.ca_bridge_laws.proofs.BridgeLemmas.{targets_lem}
-use Rattle.ca_bridge_laws.proofs.laws.bridges_are_targets.Goals as goal
-
-pub returns : goal.returns
-returns c = targets_lem

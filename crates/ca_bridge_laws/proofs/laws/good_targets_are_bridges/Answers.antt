@@ -1,5 +1,0 @@
-use Rattle.ca_bridge_laws.proofs.BridgeLemmas.{good_lem}
-use Rattle.ca_bridge_laws.proofs.laws.good_targets_are_bridges.Goals as goal
-
-pub returns : goal.returns
-returns c = good_lem

@@ -1,4 +1,0 @@
--- What the contracts of this crate say, in reading order.
-pub mod Bridges
-pub mod Good
-pub mod Laws
