@@ -1,12 +1,13 @@
 //! Test generation on a linked chip.
 
-ghost use Rattle.std.specs.Prelude.{ℕ, ◌≡◌, ◌<◌, ◌^◌, length, IfOk, IfErr};
+ghost use Rattle.std.specs.Prelude.{ℕ, ◌≡◌, IfOk, IfErr};
 ghost use Rattle.ca_credit.specs.Good.{IsGood};
 ghost use Rattle.ca_generate.specs.GenerateFault.{IsCause};
 ghost use Rattle.ca_generate.specs.declared.fault.GenerateFault.TheVariants as fault;
+ghost use Rattle.ca_generate.specs.Known.{AreUntestable};
 ghost use Rattle.ca_engine.specs.ChipTask.{task_of};
-ghost use Rattle.ca_engine.specs.ChipBench.{task_in};
 ghost use Rattle.ca_judge.specs.Attempt.{IsTriedOn};
+ghost use Rattle.ca_sweep.specs.Seen.{IsForChip};
 
 use crate::chip_bench::ChipBench;
 use crate::finders::reserve_laned;
@@ -17,7 +18,7 @@ use ca_generate::{GenerateFault, Generated, Watch, generate_knowing, rule_out};
 use ca_judge::{Attempts, ScopedChoice};
 use ca_linked::Chip;
 use ca_rows::{ChipRows, ExposableDefects};
-use ca_sweep::LanedFinder;
+use ca_sweep::FlipFinder;
 use ca_view::View;
 use std::alloc::Global;
 
@@ -61,9 +62,9 @@ pub fn generate_over<T: Watch>(
 {
     view.viewed();
     let untestable = untestable_marks(alloc, view, rows)?;
-    let mut bench = reserve_bench(alloc, view, rows, budget)?;
-    let made = generate_knowing(alloc, &mut bench, &untestable, watch);
-    drop(bench);
+    let choice = reserve_choice(alloc, view)?;
+    let finder = reserve_laned(alloc, view)?;
+    let made = generate_by(alloc, view, rows, choice, finder, &untestable, budget, watch);
     drop(untestable);
     match made {
         Ok(made) => ruled_out(alloc, view, rows, made),
@@ -71,39 +72,15 @@ pub fn generate_over<T: Watch>(
     }
 }
 
-// The bench on which pairs are searched for by the cheapest way, and credited 64 at a time.
-fn reserve_bench<'a, R: ExposableDefects>(
+// The cheapest way, with room for its attempts.
+fn reserve_choice<'a>(
     alloc: Global,
     view: &'a View<'a>,
-    rows: &'a R,
-    budget: u32,
-) -> Result<ChipBench<'a, R, ScopedChoice<'a, CheapestWay<'a>>, LanedFinder<'a>>, NoMemory>
-    requires rows { R.chip rows.now ≡ view.now.core }
-
-    ensures task { IfOk result (λ bench. task_in bench ≡ task_of view.now.chip budget) }
-    ensures few { IfOk result (λ bench. length bench.defects < 2 ^ 32) }
+) -> Result<ScopedChoice<'a, CheapestWay<'a>>, NoMemory>
+    ensures { IfOk result (IsTriedOn view.now.core view.now.ranks) }
 {
     let cheapest = CheapestWay::reserve(alloc, view)?;
-    let choice = ScopedChoice::reserve(alloc, view, cheapest)?;
-    reserve_by(alloc, view, rows, choice, budget)
-}
-
-// The same by a choice of any type: so what is dropped here has few parts to the prover.
-fn reserve_by<'a, R: ExposableDefects, P: Attempts + Drop>(
-    alloc: Global,
-    view: &'a View<'a>,
-    rows: &'a R,
-    choice: P,
-    budget: u32,
-) -> Result<ChipBench<'a, R, P, LanedFinder<'a>>, NoMemory>
-    requires rows { R.chip rows.now ≡ view.now.core }
-    requires choice { IsTriedOn view.now.core view.now.ranks (P.tried choice) }
-
-    ensures task { IfOk result (λ bench. task_in bench ≡ task_of view.now.chip budget) }
-    ensures few { IfOk result (λ bench. length bench.defects < 2 ^ 32) }
-{
-    let finder = reserve_laned(alloc, view)?;
-    ChipBench::reserve(alloc, view, rows, choice, finder, budget)
+    ScopedChoice::reserve(alloc, view, cheapest)
 }
 
 // The same where the aborted defects are untestable of which that is known afterwards.
@@ -128,4 +105,31 @@ fn ruled_out(
         }
         Err(NoMemory) => Err(GenerateFault::NoMemory),
     }
+}
+
+// The same by rows, a choice and a finder of any type: so the bench that is dropped here has few parts to the
+// prover.
+fn generate_by<R: ExposableDefects, P: Attempts + Drop, F: FlipFinder + Drop, T: Watch>(
+    alloc: Global,
+    view: &View<'_>,
+    rows: &R,
+    choice: P,
+    finder: F,
+    untestable: &[bool],
+    budget: u32,
+    watch: &mut T,
+) -> Result<Generated, GenerateFault>
+    requires rows { R.chip rows.now ≡ view.now.core }
+    requires choice { IsTriedOn view.now.core view.now.ranks (P.tried choice) }
+    requires finder { IsForChip view.now.core view.now.ranks (F.loaded finder) }
+    requires untestable { AreUntestable (task_of view.now.chip budget) untestable.now }
+
+    ensures good { IfOk result
+        (λ made. IsGood (task_of view.now.chip budget) made.pairs made.aims made.verdicts) }
+    ensures cause { IfErr result (IsCause (task_of view.now.chip budget)) }
+{
+    let mut bench = ChipBench::reserve(alloc, view, rows, choice, finder, budget)?;
+    let made = generate_knowing(alloc, &mut bench, untestable, watch);
+    drop(bench);
+    made
 }

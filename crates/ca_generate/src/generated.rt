@@ -7,7 +7,6 @@ ghost use Rattle.ca_generate.specs.Known.{AreUntestable};
 
 use crate::bench::Bench;
 use crate::fault::{Aims, GenerateFault};
-use crate::marks::is_marked;
 use crate::watch::Watch;
 use crate::work::Work;
 use ca_credit::Verdicts;
@@ -56,9 +55,14 @@ pub fn generate_knowing<B: Bench, T: Watch>(
     let mut work = Work::begin(alloc, bench)?;
     let count = bench.defect_count();
     for place in 0..count {
-        let is_untestable = is_marked(untestable, place);
         work = work.ready(bench, place);
-        work = work.take_turn(alloc, bench, place, is_untestable)?;
+        if work.is_wanted(place, untestable) {
+            bench.aim(place);
+            let end = bench.find(alloc)?;
+            work = work.end_turn(bench, place, end)?;
+        } else {
+            work = work.skip_turn(place);
+        }
         watch.reported(place + 1, count);
     }
     let work = work.catch_up(bench, count);

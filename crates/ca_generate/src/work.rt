@@ -1,15 +1,17 @@
 //! The turn of a defect: it is searched for, unless it has a verdict or is known to be untestable.
 
-ghost use Rattle.std.specs.Prelude.{◌≡◌, ◌<◌, ◌≤◌, ◌^◌, ◌+◌, length, IfOk, IfErr, None, true};
-ghost use Rattle.ca_credit.specs.Defects.{StandsIn};
+ghost use Rattle.std.specs.Prelude.{◌≡◌, ◌<◌, ◌≤◌, ◌^◌, ◌+◌, length, IfOk, IfErr, None, IsTrue, true, false};
+ghost use Rattle.std.specs.Prelude.{slice_index_or};
+ghost use Rattle.ca_credit.specs.Defects.{StandsIn, Task};
 ghost use Rattle.ca_credit.specs.Listed.{IsFoundAt};
 ghost use Rattle.ca_credit.specs.Table.{verdict_at};
 ghost use Rattle.ca_generate.specs.GenerateFault.{IsCause};
 ghost use Rattle.ca_generate.specs.Known.{IsUntestableAt};
-ghost use Rattle.ca_generate.specs.code.Progress.{IsScreened, StandsAfter, WorkStands};
+ghost use Rattle.ca_generate.specs.code.Progress.{IsScreened, IsEndAt, StandsAfter, WorkStands};
 
 use crate::bench::Bench;
 use crate::fault::{Aims, GenerateFault};
+use crate::marks::is_marked;
 use crate::search_end::SearchEnd;
 use ca_base::NoMemory;
 use ca_credit::{Credits, LANES, MOST_PAIRS, Verdict, keep_pairs_from};
@@ -91,34 +93,51 @@ impl Work {
         work
     }
 
-    /// The turn of the defect at a place, of which may be known that it is untestable.
-    pub(crate) fn take_turn<B: Bench>(
+    /// Whether a search for the defect at a place is wanted: it has no verdict yet, and isn't marked.
+    pub(crate) fn is_wanted(&self, place: usize, untestable: &[bool]) -> bool
+        requires { place < length self.now.credits }
+        ensures open { IsTrue result → verdict_at self.now.credits place ≡ None }
+        ensures marked { result ≡ false → verdict_at self.now.credits place ≡ None
+            → slice_index_or untestable.now place false ≡ true }
+    {
+        self.credits.is_waiting(place) && !is_marked(untestable, place)
+    }
+
+    /// The turn of a defect that has a verdict, or is known to be untestable.
+    pub(crate) fn skip_turn(self, place: usize) -> Self
+        requires { place < length self.credits }
+        ensures { (task : Task) → place < length task.defects → WorkStands task place self → place < self.edge
+            → (verdict_at self.credits place ≡ None → IsUntestableAt task place)
+            → WorkStands task (place + 1) result }
+    {
+        if !self.credits.is_waiting(place) {
+            return self;
+        }
+        let mut work = self;
+        work.credits.settle(place, Verdict::Untestable);
+        work
+    }
+
+    /// The turn of a defect whose search ended so.
+    pub(crate) fn end_turn<B: Bench>(
         self,
-        alloc: Global,
         bench: &mut B,
         place: usize,
-        is_untestable: bool,
+        end: SearchEnd,
     ) -> Result<Self, GenerateFault>
         requires within { place < length (B.task bench.old).defects }
         requires few { length (B.task bench.old).defects < 2 ^ 32 }
         requires stands { WorkStands (B.task bench.old) place self }
         requires ahead { place < self.edge }
-        requires known { is_untestable ≡ true → IsUntestableAt (B.task bench.old) place }
+        requires waiting { verdict_at self.credits place ≡ None }
+        requires stands_in { StandsIn (B.task bench.old).chip ((B.task bench.old).chip_of place) }
+        requires ended { IsEndAt (B.task bench.old) place end }
 
         ensures ok { IfOk result (WorkStands (B.task bench.old) (place + 1)) }
         ensures cause { IfErr result (IsCause (B.task bench.old)) }
         ensures task { B.task bench.new ≡ B.task bench.old }
     {
-        if !self.credits.is_waiting(place) {
-            return Ok(self);
-        }
         let mut work = self;
-        if is_untestable {
-            work.credits.settle(place, Verdict::Untestable);
-            return Ok(work);
-        }
-        bench.aim(place);
-        let end = bench.find(alloc)?;
         match end {
             SearchEnd::Found { pair } => work.list(bench, place, pair),
             SearchEnd::Exhausted => {

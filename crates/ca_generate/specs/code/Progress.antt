@@ -14,6 +14,8 @@ use Rattle.ca_credit.specs.Good.{IsAmple, IsRightlyAborted, IsCheckedSpent}
 use Rattle.ca_credit.specs.Table.{verdict_at}
 use Rattle.ca_credit.specs.declared.limit.TheConstants.{MOST_PAIRS}
 use Rattle.ca_generate.specs.declared.work.Work.{Work}
+use Rattle.ca_generate.specs.declared.search_end.SearchEnd.{SearchEnd}
+use Rattle.ca_generate.specs.Outcome.{IsSearchEnd}
 
 -- no verdict yet: the defect can be exposed, its turn is still to come, and no listed pair detects it
 pub record IsWaiting (task : Task) (turns : ℕ) (pairs : List (List Bool)) (place : ℕ) (defect : ChipDefect)
@@ -112,3 +114,9 @@ pub record IsScreened (task : Task) (count : ℕ) (table : List (Option Verdict)
   pub entries : (place : ℕ) (defect : ChipDefect) → place < count → IsDefectAt task place defect
       → IsScreenedEntry (task.chip_of place) defect (verdict_at table place)
   pub others : (place : ℕ) → count ≤ place → verdict_at table place ≡ None
+
+-- a search for the defect at the place has ended so
+abbrev pub IsEndAt : Task → ℕ → SearchEnd → Type 0
+IsEndAt task place end =
+    (defect : ChipDefect) → IsDefectAt task place defect
+    → IsSearchEnd (task.chip_of place) task.budget defect end
