@@ -58,11 +58,7 @@ pub fn find_certificate<S: Store, T: Watch>(
 {
     let Loaded { chip, chains } = load(alloc, names, store)?;
     match certified_tests(alloc, &chip, &chains, budget, watch) {
-        Ok(made) => Ok(CertifiedChip {
-            chip,
-            chains,
-            made,
-        }),
+        Ok(made) => Ok(CertifiedChip { chip, chains, made }),
         Err(fault) => Err(generation_fault(fault)),
     }
 }

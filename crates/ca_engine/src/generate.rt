@@ -64,7 +64,16 @@ pub fn generate_over<T: Watch>(
     let untestable = untestable_marks(alloc, view, rows)?;
     let choice = reserve_choice(alloc, view)?;
     let finder = reserve_laned(alloc, view)?;
-    let made = generate_by(alloc, view, rows, choice, finder, &untestable, budget, watch);
+    let made = generate_by(
+        alloc,
+        view,
+        rows,
+        choice,
+        finder,
+        &untestable,
+        budget,
+        watch,
+    );
     drop(untestable);
     match made {
         Ok(made) => ruled_out(alloc, view, rows, made),

@@ -28,9 +28,7 @@ use ca_generating::{MadeChip, TestedChip, find_made, find_tests};
 use ca_grading::{GradedChip, find_grades};
 use ca_load::{Loaded, load};
 use ca_on_cell::{find_matrix, find_names, find_values};
-use ca_on_chip::{
-    FlatChip, ReplayedChip, SimulatedChip, find_flat, find_replay, find_simulation,
-};
+use ca_on_chip::{FlatChip, ReplayedChip, SimulatedChip, find_flat, find_replay, find_simulation};
 use ca_store::{Sink, Store};
 use ca_words::{
     AtpgWords, Command, DiagnoseWords, FlattenWords, GradeWords, MatrixWords, ReplayWords, parse,

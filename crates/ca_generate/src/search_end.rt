@@ -1,7 +1,7 @@
 //! How a search ends.
 
-use ca_pair::Pair;
 use ca_code::Code;
+use ca_pair::Pair;
 
 /// What a search has found: a pair that shows the defect, that there is none, or neither within the budget,
 /// with the code of what it tried.

@@ -1,12 +1,12 @@
 //! What was generated, as a text.
 
 use ca_base::NoMemory;
+use ca_code::Code;
 use ca_credit::Verdict;
 use ca_flat::Token;
 use ca_generate::{GenerateFault, Generated};
 use ca_lex::Text;
 use ca_pair::Pair;
-use ca_code::Code;
 use std::alloc::Global;
 
 // Appends a number below 1,000 with a space before it.

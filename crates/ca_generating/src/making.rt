@@ -41,11 +41,13 @@ pub fn find_made<T: Watch>(alloc: Global, number: u32, watch: &mut T) -> Result<
 {
     let chip = linked(alloc, number)?;
     match generate_chip(alloc, &chip, MAKE_BUDGET, watch) {
-        Ok(Generated {
-            pairs,
-            aims,
-            verdicts,
-        }) => Ok(MadeChip {
+        Ok(
+            Generated {
+                pairs,
+                aims,
+                verdicts,
+            },
+        ) => Ok(MadeChip {
             chip,
             pairs,
             aims,

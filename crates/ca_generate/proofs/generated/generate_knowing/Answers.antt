@@ -33,12 +33,15 @@ loop-place-preserved g c =
     elim c.if-is_wanted.branch [
       | then-is_wanted+in_ok-end+in_ok-work-2 w ↦
           let same = w.in_ok-end.ensures.task ∙ w.aim.ensures.task ∙ ready in
-          rw (w.work-is, w.bench-is)
-          (subst (λ (t : Task). WorkStands t next w.in_ok-work-2.work) same w.in_ok-work-2.ensures.ok,
-          w.in_ok-work-2.ensures.task ∙ same)
+          rw (w.work-is, w.bench-is) (
+            subst (λ (t : Task). WorkStands t next w.in_ok-work-2.work) same w.in_ok-work-2.ensures.ok,
+            w.in_ok-work-2.ensures.task ∙ same,
+          )
       | else-is_wanted w ↦
-          rw (w.work-is, w.bench-is)
-          (w.skip_turn-work.ensures task (subst (λ (count : ℕ). c.loop-place.place < count) c.defect_count-count.ensures c.loop-place-test.true)
-          (subst (λ (t : Task). WorkStands t c.loop-place.place c.ready-work.result) c.loop-place.invariant.1 c.ready-work.ensures.stands)
-          c.ready-work.ensures.ahead (λ none. c.requires.untestable c.loop-place.place (c.is_wanted.ensures.marked w.if-is_wanted.false none)), ready)
+          rw (w.work-is, w.bench-is) (
+            w.skip_turn-work.ensures task (subst (λ (count : ℕ). c.loop-place.place < count) c.defect_count-count.ensures c.loop-place-test.true)
+                (subst (λ (t : Task). WorkStands t c.loop-place.place c.ready-work.result) c.loop-place.invariant.1 c.ready-work.ensures.stands)
+                c.ready-work.ensures.ahead (λ none. c.requires.untestable c.loop-place.place (c.is_wanted.ensures.marked w.if-is_wanted.false none)),
+            ready,
+          )
     ]
