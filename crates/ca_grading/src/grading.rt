@@ -12,7 +12,7 @@ ghost use Rattle.ca_load.specs.Files.{ReportsStoreFault};
 ghost use Rattle.ca_load.specs.Chips.{IsChipOf};
 ghost use Rattle.ca_load.specs.Texts.{names_of, OfInputs};
 ghost use Rattle.ca_patterns.specs.Patterns.{AreFew, IsLoadedCause};
-ghost use Rattle.ca_patterns.specs.Stages.{IsValueStage};
+ghost use Rattle.ca_patterns.specs.code.Stages.{IsValueStage};
 ghost use Rattle.ca_grading.specs.Grading.{AreGradesByFile};
 
 use ca_chip_grade::{grade_chip, grade_report};

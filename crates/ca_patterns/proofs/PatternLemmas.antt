@@ -22,7 +22,8 @@ use Rattle.ca_load.proofs.ReadLemmas.{of_whole, of_file_then}
 use Rattle.ca_patterns.specs.declared.patterns.TheConstants.{MAX_STIL}
 use Rattle.ca_patterns.specs.Patterns.{IsPatternsOf, AreFew, IsStilFault, IsStilCause, OfTraced, GiveTraced}
 use Rattle.ca_patterns.specs.Patterns.{IsLoadedCause, IsPatternsCause, fault_of_value, IsSmall}
-use Rattle.ca_patterns.specs.Stages.{IsPatternsStage, IsValueStage}
+use Rattle.ca_patterns.specs.Stages.{IsPatternsStage}
+use Rattle.ca_patterns.specs.code.Stages.{IsValueStage}
 use Rattle.ca_patterns.specs.code.Stages.{IsTextStage}
 
 module _ (chip : LinkedChip) (chains : List (List ℕ)) (name : List ℕ) (files : Option Files) (before after : ℕ) (fault : Fault) where

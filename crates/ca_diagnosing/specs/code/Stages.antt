@@ -9,7 +9,7 @@ use Rattle.ca_stil_pairs.specs.declared.file.StilFile.{StilFile}
 use Rattle.ca_fault.specs.declared.fault.Fault.{Fault}
 use Rattle.ca_fault.specs.declared.fault.Fault.TheVariants.{NoMemory}
 use Rattle.ca_load.specs.Files.{OfFile, IsReadCause}
-use Rattle.ca_patterns.specs.Stages.{IsValueStage}
+use Rattle.ca_patterns.specs.code.Stages.{IsValueStage}
 use Rattle.ca_diagnosing.specs.declared.logs.TheConstants.{MAX_LOG}
 use Rattle.ca_diagnosing.specs.Diagnosing.{IsBadLog, IsLogFault}
 

@@ -10,7 +10,7 @@ use Rattle.ca_stil_pairs.specs.declared.file.StilFile.{StilFile}
 use Rattle.ca_fault.specs.declared.fault.Fault.{Fault}
 use Rattle.ca_fault.specs.declared.fault.Fault.TheVariants.{CertChip, NoMemory}
 use Rattle.ca_load.specs.Files.{OfFile, IsReadCause}
-use Rattle.ca_patterns.specs.Stages.{IsValueStage}
+use Rattle.ca_patterns.specs.code.Stages.{IsValueStage}
 use Rattle.ca_verifying.specs.declared.certificates.TheConstants.{MAX_CERT}
 use Rattle.ca_verifying.specs.Verifying.{IsBadCert, IsCertFault}
 
