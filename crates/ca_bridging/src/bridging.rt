@@ -3,7 +3,7 @@ ghost use Rattle.std.specs.Prelude.{◌≡◌, Some, IfErr, IfOk, OnOk};
 ghost use Rattle.ca_store.specs.Store.{Nothing};
 ghost use Rattle.ca_scan.specs.ChainFault.{AreAllChains};
 ghost use Rattle.ca_atpg.specs.Atpg.{IsStil};
-ghost use Rattle.ca_load.specs.Files.{ReportsStoreFault};
+ghost use Rattle.ca_load.specs.Files.{OnlyReads};
 ghost use Rattle.ca_load.specs.Texts.{names_of};
 ghost use Rattle.ca_request.specs.Asked.{IsInstanceStage};
 ghost use Rattle.ca_on_chip.specs.OnChip.{IsChipOfFiles};
@@ -51,11 +51,8 @@ pub fn find_bridges<S: Store, T: Watch>(
         found.made.report ≡ bridges_report found.chip found.made.bridges found.made.judged.verdicts) }
     ensures cause { IfErr result (IsBridgesCause (names_of request.now.files) request.now.instance.now
         (S.files store.old) (S.faults store.old) (S.faults store.new)) }
-    ensures quiet { OnOk result (S.faults store.new ≡ S.faults store.old) }
-    ensures reported { IfErr result (λ fault.
-        ReportsStoreFault (Some fault) (S.faults store.old) (S.faults store.new)) }
-    ensures closed { S.opened store.new ≡ Nothing }
-    ensures kept { S.files store.new ≡ S.files store.old }
+    ensures store { OnlyReads result (S.files store.old) (S.faults store.old)
+        (S.files store.new) (S.faults store.new) (S.opened store.new) }
 {
     let Loaded { chip, chains } = load(alloc, &request.files, store)?;
     let made = bridges_on(

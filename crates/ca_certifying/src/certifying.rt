@@ -4,7 +4,7 @@ ghost use Rattle.ca_store.specs.Store.{Nothing};
 ghost use Rattle.ca_scan.specs.ChainFault.{AreAllChains};
 ghost use Rattle.ca_atpg.specs.Atpg.{IsStil};
 ghost use Rattle.ca_cert_text.specs.CertText.{certificate_text};
-ghost use Rattle.ca_load.specs.Files.{ReportsStoreFault};
+ghost use Rattle.ca_load.specs.Files.{OnlyReads};
 ghost use Rattle.ca_load.specs.Texts.{names_of};
 ghost use Rattle.ca_on_chip.specs.OnChip.{IsChipOfFiles, IsTestsCause};
 ghost use Rattle.ca_certifying.specs.Certified.{IsCertified};
@@ -50,11 +50,8 @@ pub fn find_certificate<S: Store, T: Watch>(
         found.made.text ≡ certificate_text found.made.certificate) }
     ensures cause { IfErr result (IsTestsCause (names_of names.now) budget
         (S.files store.old) (S.faults store.old) (S.faults store.new)) }
-    ensures quiet { OnOk result (S.faults store.new ≡ S.faults store.old) }
-    ensures reported { IfErr result (λ fault.
-        ReportsStoreFault (Some fault) (S.faults store.old) (S.faults store.new)) }
-    ensures closed { S.opened store.new ≡ Nothing }
-    ensures kept { S.files store.new ≡ S.files store.old }
+    ensures store { OnlyReads result (S.files store.old) (S.faults store.old)
+        (S.files store.new) (S.faults store.new) (S.opened store.new) }
 {
     let Loaded { chip, chains } = load(alloc, names, store)?;
     match certified_tests(alloc, &chip, &chains, budget, watch) {

@@ -7,7 +7,7 @@ ghost use Rattle.ca_engine.specs.ChipTask.{task_of};
 ghost use Rattle.ca_diag.specs.Candidates.{AreCandidates};
 ghost use Rattle.ca_chip_diag.specs.Diagnosed.{CanBeDiagnosed};
 ghost use Rattle.ca_chip_diag.specs.Texts.{candidates_text, diagnosis_line};
-ghost use Rattle.ca_load.specs.Files.{ReportsStoreFault};
+ghost use Rattle.ca_load.specs.Files.{OnlyReads};
 ghost use Rattle.ca_load.specs.Chips.{IsChipOf};
 ghost use Rattle.ca_load.specs.Texts.{names_of, OfInputs};
 ghost use Rattle.ca_diagnosing.specs.Diagnosing.{AreCandidatesByFiles, IsDiagnosedCause};
@@ -65,11 +65,8 @@ pub fn find_candidates<S: Store, T: Watch>(
         (length (task_of found.chip 0).defects) (length found.log)) }
     ensures cause { IfErr result (IsDiagnosedCause (names_of request.now.files) request.now.stil.now
         request.now.log.now (S.files store.old) (S.faults store.old) (S.faults store.new)) }
-    ensures quiet { OnOk result (S.faults store.new ≡ S.faults store.old) }
-    ensures reported { IfErr result (λ fault.
-        ReportsStoreFault (Some fault) (S.faults store.old) (S.faults store.new)) }
-    ensures closed { S.opened store.new ≡ Nothing }
-    ensures kept { S.files store.new ≡ S.files store.old }
+    ensures store { OnlyReads result (S.files store.old) (S.faults store.old)
+        (S.files store.new) (S.faults store.new) (S.opened store.new) }
 {
     let LoggedChip {
         chip,

@@ -7,7 +7,7 @@ ghost use Rattle.ca_outputs.specs.Outputs.{output_names};
 ghost use Rattle.ca_chip_stil.specs.ChipStil.{AreOfChip};
 ghost use Rattle.ca_expected.specs.Expected.{AreExpected};
 ghost use Rattle.ca_log.specs.LogText.{IsLog};
-ghost use Rattle.ca_load.specs.Files.{OfFile, ReportsStoreFault};
+ghost use Rattle.ca_load.specs.Files.{OfFile, OnlyReads};
 ghost use Rattle.ca_load.specs.Chips.{IsChipOf};
 ghost use Rattle.ca_load.specs.Texts.{names_of, OfInputs};
 ghost use Rattle.ca_patterns.specs.declared.patterns.TheConstants.{MAX_STIL};
@@ -63,11 +63,8 @@ pub(crate) fn load_logged<S: Store>(
     ensures log { IfOk result (λ found. IsLog (output_names found.chip) found.file.expected found.log) }
     ensures cause { IfErr result (IsDiagnosedCause (names_of request.now.files) request.now.stil.now
         request.now.log.now (S.files store.old) (S.faults store.old) (S.faults store.new)) }
-    ensures quiet { OnOk result (S.faults store.new ≡ S.faults store.old) }
-    ensures reported { IfErr result (λ fault.
-        ReportsStoreFault (Some fault) (S.faults store.old) (S.faults store.new)) }
-    ensures closed { S.opened store.new ≡ Nothing }
-    ensures kept { S.files store.new ≡ S.files store.old }
+    ensures store { OnlyReads result (S.files store.old) (S.faults store.old)
+        (S.files store.new) (S.faults store.new) (S.opened store.new) }
 {
     let typed = Text::from_bytes(alloc, request.log.as_bytes())?;
     let PatternedChip { chip, chains, file } = load_patterns(
@@ -107,11 +104,8 @@ fn judged_log<S: Store>(
     ensures log { IfOk result (IsLog (output_names chip.now) file.now.expected) }
     ensures cause { IfErr result (IsJudgedStage chip.now file.now name.now (S.files store.old)
         (S.faults store.old) (S.faults store.new)) }
-    ensures quiet { OnOk result (S.faults store.new ≡ S.faults store.old) }
-    ensures reported { IfErr result (λ fault.
-        ReportsStoreFault (Some fault) (S.faults store.old) (S.faults store.new)) }
-    ensures closed { S.opened store.new ≡ Nothing }
-    ensures kept { S.files store.new ≡ S.files store.old }
+    ensures store { OnlyReads result (S.files store.old) (S.faults store.old)
+        (S.files store.new) (S.faults store.new) (S.opened store.new) }
 {
     match judge_chip(
         alloc,

@@ -5,7 +5,7 @@ ghost use Rattle.ca_store.specs.Store.{Nothing};
 ghost use Rattle.ca_linked.specs.Linked.{outputs_of};
 ghost use Rattle.ca_outputs.specs.Outputs.{output_names};
 ghost use Rattle.ca_log.specs.LogText.{IsLog};
-ghost use Rattle.ca_load.specs.Files.{OfFile, ReportsStoreFault};
+ghost use Rattle.ca_load.specs.Files.{OfFile, OnlyReads};
 ghost use Rattle.ca_diagnosing.specs.Diagnosing.{IsLogIn};
 ghost use Rattle.ca_diagnosing.specs.code.Stages.{IsLogTextStage, IsLogStage};
 
@@ -44,11 +44,8 @@ pub(crate) fn open_log<S: Store>(
     ensures log { IfOk result (IsLog (output_names chip.now) expected.now) }
     ensures cause { IfErr result (IsLogStage chip.now expected.now name.now (S.files store.old)
         (S.faults store.old) (S.faults store.new)) }
-    ensures quiet { OnOk result (S.faults store.new ≡ S.faults store.old) }
-    ensures reported { IfErr result (λ fault.
-        ReportsStoreFault (Some fault) (S.faults store.old) (S.faults store.new)) }
-    ensures closed { S.opened store.new ≡ Nothing }
-    ensures kept { S.files store.new ≡ S.files store.old }
+    ensures store { OnlyReads result (S.files store.old) (S.faults store.old)
+        (S.files store.new) (S.faults store.new) (S.opened store.new) }
 {
     let bytes = read_input(alloc, name, typed, MAX_LOG, store)?;
     log_in(alloc, chip, expected, bytes.as_bytes())

@@ -3,7 +3,7 @@ ghost use Rattle.std.specs.Prelude.{◌≡◌, ◌≢◌, ℕ, List, Some, IfOk,
 ghost use Rattle.ca_store.specs.Store.{Nothing};
 ghost use Rattle.ca_words.specs.Command.{IsSpelledCertify, IsSpelledVerify};
 ghost use Rattle.ca_flow.specs.Fault.{IsWorkCause};
-ghost use Rattle.ca_load.specs.Files.{ReportsStoreFault};
+ghost use Rattle.ca_load.specs.Files.{OnlyReads};
 ghost use Rattle.ca_flow.specs.Ends.{IsAsked};
 ghost use Rattle.ca_flow.specs.code.Work.{HasFiles};
 
@@ -36,11 +36,8 @@ pub(crate) fn certificate_work<'a, S: Store, T: Watch>(
     ensures cause { IfErr result (λ fault. (words : List (List ℕ)) → IsSpelledCertify words request.now
         → IsWorkCause words (S.files store.old) (S.faults store.old) (S.faults store.new) fault) }
     ensures no_sink { IfErr result (λ fault. fault ≢ Fault.SinkFailed) }
-    ensures quiet { OnOk result (S.faults store.new ≡ S.faults store.old) }
-    ensures reported { IfErr result (λ fault.
-        ReportsStoreFault (Some fault) (S.faults store.old) (S.faults store.new)) }
-    ensures closed { S.opened store.new ≡ Nothing }
-    ensures kept { S.files store.new ≡ S.files store.old }
+    ensures store { OnlyReads result (S.files store.old) (S.faults store.old)
+        (S.files store.new) (S.faults store.new) (S.opened store.new) }
 {
     let CertifiedChip { chip, chains, made } = find_certificate(
         alloc,
@@ -92,11 +89,8 @@ pub(crate) fn answer_work<'a, S: Store>(
     ensures cause { IfErr result (λ fault. (words : List (List ℕ)) → IsSpelledVerify words request.now
         → IsWorkCause words (S.files store.old) (S.faults store.old) (S.faults store.new) fault) }
     ensures no_sink { IfErr result (λ fault. fault ≢ Fault.SinkFailed) }
-    ensures quiet { OnOk result (S.faults store.new ≡ S.faults store.old) }
-    ensures reported { IfErr result (λ fault.
-        ReportsStoreFault (Some fault) (S.faults store.old) (S.faults store.new)) }
-    ensures closed { S.opened store.new ≡ Nothing }
-    ensures kept { S.files store.new ≡ S.files store.old }
+    ensures store { OnlyReads result (S.files store.old) (S.faults store.old)
+        (S.files store.new) (S.faults store.new) (S.opened store.new) }
 {
     let VerifiedChip {
         chip,

@@ -9,7 +9,7 @@ ghost use Rattle.ca_words.specs.code.Command.{NamesBoth, IsWhole};
 ghost use Rattle.ca_words.specs.Command.{IsSpelledFlatten, IsSpelledMatrix, IsSpelledGrade};
 ghost use Rattle.ca_words.specs.Command.{IsSpelledDiagnose};
 ghost use Rattle.ca_flow.specs.Fault.{IsWorkCause};
-ghost use Rattle.ca_load.specs.Files.{ReportsStoreFault};
+ghost use Rattle.ca_load.specs.Files.{OnlyReads};
 ghost use Rattle.ca_flow.specs.Ends.{IsAsked, Ends};
 ghost use Rattle.ca_flow.specs.code.Work.{HasFiles};
 ghost use Rattle.ca_flow.specs.declared.finished.Done.TheVariants as done;
@@ -94,11 +94,8 @@ fn work_of<'a, S: Store, T: Watch>(
     ensures cause { IfErr result (λ fault. (words : List (List ℕ)) → IsSpelled words command.now
         → IsWorkCause words (S.files store.old) (S.faults store.old) (S.faults store.new) fault) }
     ensures no_sink { IfErr result (λ fault. fault ≢ Fault.SinkFailed) }
-    ensures quiet { OnOk result (S.faults store.new ≡ S.faults store.old) }
-    ensures reported { IfErr result (λ fault.
-        ReportsStoreFault (Some fault) (S.faults store.old) (S.faults store.new)) }
-    ensures closed { S.opened store.new ≡ Nothing }
-    ensures kept { S.files store.new ≡ S.files store.old }
+    ensures store { OnlyReads result (S.files store.old) (S.faults store.old)
+        (S.files store.new) (S.faults store.new) (S.opened store.new) }
 {
     match command {
         Command::Respond(request) => Ok(printed(Done::Respond {
@@ -163,11 +160,8 @@ fn matrix_work<'a, S: Store>(
     ensures cause { IfErr result (λ fault. (words : List (List ℕ)) → IsSpelledMatrix words request.now
         → IsWorkCause words (S.files store.old) (S.faults store.old) (S.faults store.new) fault) }
     ensures no_sink { IfErr result (λ fault. fault ≢ Fault.SinkFailed) }
-    ensures quiet { OnOk result (S.faults store.new ≡ S.faults store.old) }
-    ensures reported { IfErr result (λ fault.
-        ReportsStoreFault (Some fault) (S.faults store.old) (S.faults store.new)) }
-    ensures closed { S.opened store.new ≡ Nothing }
-    ensures kept { S.files store.new ≡ S.files store.old }
+    ensures store { OnlyReads result (S.files store.old) (S.faults store.old)
+        (S.files store.new) (S.faults store.new) (S.opened store.new) }
 {
     let matrix = find_matrix(alloc, &request.of, store)?;
     let file = matrix_file(alloc, request.out, &matrix)?;
@@ -194,11 +188,8 @@ fn flat_work<'a, S: Store>(
     ensures cause { IfErr result (λ fault. (words : List (List ℕ)) → IsSpelledFlatten words request.now
         → IsWorkCause words (S.files store.old) (S.faults store.old) (S.faults store.new) fault) }
     ensures no_sink { IfErr result (λ fault. fault ≢ Fault.SinkFailed) }
-    ensures quiet { OnOk result (S.faults store.new ≡ S.faults store.old) }
-    ensures reported { IfErr result (λ fault.
-        ReportsStoreFault (Some fault) (S.faults store.old) (S.faults store.new)) }
-    ensures closed { S.opened store.new ≡ Nothing }
-    ensures kept { S.files store.new ≡ S.files store.old }
+    ensures store { OnlyReads result (S.files store.old) (S.faults store.old)
+        (S.files store.new) (S.faults store.new) (S.opened store.new) }
 {
     let FlatChip { chip, net } = find_flat(alloc, &request.of, store)?;
     let file = flat_file(alloc, request.out, &net)?;
@@ -270,11 +261,8 @@ fn replay_work<'a, S: Store>(
     ensures cause { IfErr result (λ fault. (words : List (List ℕ)) → IsSpelledReplay words request.now
         → IsWorkCause words (S.files store.old) (S.faults store.old) (S.faults store.new) fault) }
     ensures no_sink { IfErr result (λ fault. fault ≢ Fault.SinkFailed) }
-    ensures quiet { OnOk result (S.faults store.new ≡ S.faults store.old) }
-    ensures reported { IfErr result (λ fault.
-        ReportsStoreFault (Some fault) (S.faults store.old) (S.faults store.new)) }
-    ensures closed { S.opened store.new ≡ Nothing }
-    ensures kept { S.files store.new ≡ S.files store.old }
+    ensures store { OnlyReads result (S.files store.old) (S.faults store.old)
+        (S.files store.new) (S.faults store.new) (S.opened store.new) }
 {
     let ReplayedChip { chip, ends } = find_replay(alloc, request, store)?;
     Ok(printed(Done::Replay { chip, ends }))
@@ -297,11 +285,8 @@ fn grades_work<'a, S: Store, T: Watch>(
     ensures cause { IfErr result (λ fault. (words : List (List ℕ)) → IsSpelledGrade words request.now
         → IsWorkCause words (S.files store.old) (S.faults store.old) (S.faults store.new) fault) }
     ensures no_sink { IfErr result (λ fault. fault ≢ Fault.SinkFailed) }
-    ensures quiet { OnOk result (S.faults store.new ≡ S.faults store.old) }
-    ensures reported { IfErr result (λ fault.
-        ReportsStoreFault (Some fault) (S.faults store.old) (S.faults store.new)) }
-    ensures closed { S.opened store.new ≡ Nothing }
-    ensures kept { S.files store.new ≡ S.files store.old }
+    ensures store { OnlyReads result (S.files store.old) (S.faults store.old)
+        (S.files store.new) (S.faults store.new) (S.opened store.new) }
 {
     let GradedChip {
         chip,
@@ -346,11 +331,8 @@ fn candidates_work<'a, S: Store, T: Watch>(
     ensures cause { IfErr result (λ fault. (words : List (List ℕ)) → IsSpelledDiagnose words request.now
         → IsWorkCause words (S.files store.old) (S.faults store.old) (S.faults store.new) fault) }
     ensures no_sink { IfErr result (λ fault. fault ≢ Fault.SinkFailed) }
-    ensures quiet { OnOk result (S.faults store.new ≡ S.faults store.old) }
-    ensures reported { IfErr result (λ fault.
-        ReportsStoreFault (Some fault) (S.faults store.old) (S.faults store.new)) }
-    ensures closed { S.opened store.new ≡ Nothing }
-    ensures kept { S.files store.new ≡ S.files store.old }
+    ensures store { OnlyReads result (S.files store.old) (S.faults store.old)
+        (S.files store.new) (S.faults store.new) (S.opened store.new) }
 {
     let DiagnosedChip {
         chip,

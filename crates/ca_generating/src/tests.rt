@@ -5,7 +5,7 @@ ghost use Rattle.ca_scan.specs.ChainFault.{AreAllChains};
 ghost use Rattle.ca_credit.specs.Good.{IsGood};
 ghost use Rattle.ca_engine.specs.ChipTask.{task_of};
 ghost use Rattle.ca_atpg.specs.Atpg.{IsStil, report_of};
-ghost use Rattle.ca_load.specs.Files.{ReportsStoreFault};
+ghost use Rattle.ca_load.specs.Files.{OnlyReads};
 ghost use Rattle.ca_load.specs.Texts.{names_of};
 ghost use Rattle.ca_on_chip.specs.OnChip.{IsChipOfFiles, IsTestsCause};
 
@@ -49,11 +49,8 @@ pub fn find_tests<S: Store, T: Watch>(
         found.made.report ≡ report_of found.chip found.made.verdicts) }
     ensures cause { IfErr result (IsTestsCause (names_of request.now.files) request.now.budget
         (S.files store.old) (S.faults store.old) (S.faults store.new)) }
-    ensures quiet { OnOk result (S.faults store.new ≡ S.faults store.old) }
-    ensures reported { IfErr result (λ fault.
-        ReportsStoreFault (Some fault) (S.faults store.old) (S.faults store.new)) }
-    ensures closed { S.opened store.new ≡ Nothing }
-    ensures kept { S.files store.new ≡ S.files store.old }
+    ensures store { OnlyReads result (S.files store.old) (S.faults store.old)
+        (S.files store.new) (S.faults store.new) (S.opened store.new) }
 {
     let Loaded { chip, chains } = load(alloc, &request.files, store)?;
     match atpg(alloc, &chip, &chains, request.budget, watch) {

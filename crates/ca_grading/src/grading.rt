@@ -8,7 +8,7 @@ ghost use Rattle.ca_expected.specs.Expected.{AreExpected};
 ghost use Rattle.ca_engine.specs.ChipTask.{task_of};
 ghost use Rattle.ca_grade.specs.Graded.{AreGraded};
 ghost use Rattle.ca_chip_grade.specs.Texts.{grades_text};
-ghost use Rattle.ca_load.specs.Files.{ReportsStoreFault};
+ghost use Rattle.ca_load.specs.Files.{OnlyReads};
 ghost use Rattle.ca_load.specs.Chips.{IsChipOf};
 ghost use Rattle.ca_load.specs.Texts.{names_of, OfInputs};
 ghost use Rattle.ca_patterns.specs.Patterns.{AreFew, IsLoadedCause};
@@ -60,11 +60,8 @@ pub fn find_grades<S: Store, T: Watch>(
     ensures report { IfOk result (λ found. found.report ≡ grades_text found.chip found.grades) }
     ensures cause { IfErr result (IsLoadedCause (names_of request.now.files) request.now.stil.now
         (S.files store.old) (S.faults store.old) (S.faults store.new)) }
-    ensures quiet { OnOk result (S.faults store.new ≡ S.faults store.old) }
-    ensures reported { IfErr result (λ fault.
-        ReportsStoreFault (Some fault) (S.faults store.old) (S.faults store.new)) }
-    ensures closed { S.opened store.new ≡ Nothing }
-    ensures kept { S.files store.new ≡ S.files store.old }
+    ensures store { OnlyReads result (S.files store.old) (S.faults store.old)
+        (S.files store.new) (S.faults store.new) (S.opened store.new) }
 {
     let PatternedChip { chip, chains, file } = load_patterns(
         alloc,

@@ -1,7 +1,7 @@
 -- What is said of a file that was read, and why a file could not be read.
-use Rattle.std.specs.Prelude.{◌≡◌, ◌<◌, ◌≤◌, ℕ, List, length, Option, IsSomeAnd, ⊤}
+use Rattle.std.specs.Prelude.{◌≡◌, ◌<◌, ◌≤◌, ℕ, List, length, Option, Some, IsSomeAnd, OnOk, IfErr, Result, ⊤}
 use Rattle.std.specs.Option.{ForSome}
-use Rattle.ca_store.specs.Store.{Files, MayHave, Rose}
+use Rattle.ca_store.specs.Store.{Files, MayHave, Nothing, Opened, Rose}
 use Rattle.ca_store.specs.ReadFault.{IsTooLong}
 use Rattle.ca_fault.specs.declared.fault.Fault.{Fault}
 use Rattle.ca_fault.specs.declared.fault.Fault.TheVariants.{TooLong, StoreFailed, NoMemory}
@@ -34,3 +34,12 @@ IsStoreFault _ = ⊥
 pub record ReportsStoreFault (fault : Option Fault) (before after : ℕ) : Type 0 where
   pub reported : before < after → IsSomeAnd fault IsStoreFault
   pub later : before ≤ after
+
+-- A call that reads alone leaves the files as they are and none open. The store's count of faults is as it was
+-- where it answers, and rises only where it answers with a fault of the store.
+pub record OnlyReads {T : Type 0} (result : Result T Fault) (files_before : Option Files)
+    (faults_before : ℕ) (files_after : Option Files) (faults_after : ℕ) (opened_after : Opened) : Type 0 where
+  pub quiet : OnOk result (faults_after ≡ faults_before)
+  pub reported : IfErr result (λ fault. ReportsStoreFault (Some fault) faults_before faults_after)
+  pub closed : opened_after ≡ Nothing
+  pub kept : files_after ≡ files_before

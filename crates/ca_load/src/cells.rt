@@ -2,7 +2,7 @@
 ghost use Rattle.std.specs.Prelude.{◌≡◌, Some, map, IfErr, IfOk, OnOk};
 ghost use Rattle.ca_cell.specs.Library.{raw_of};
 ghost use Rattle.ca_store.specs.Store.{Nothing};
-ghost use Rattle.ca_load.specs.Files.{OfFile, ReportsStoreFault};
+ghost use Rattle.ca_load.specs.Files.{OfFile, OnlyReads};
 ghost use Rattle.ca_load.specs.Texts.{cells_of, AreTypedCells, OfCells, IsLibraryOf};
 ghost use Rattle.ca_load.specs.Causes.{IsLibraryCause};
 ghost use Rattle.ca_load.specs.code.Stages.{IsFileStage, IsCellsStage};
@@ -65,11 +65,8 @@ pub fn open_library<S: Store>(
         OfCells (S.files store.old) (cells_of names.now) (IsLibraryOf library)) }
     ensures cause { IfErr result (IsLibraryCause (cells_of names.now) (S.files store.old)
         (S.faults store.old) (S.faults store.new)) }
-    ensures quiet { OnOk result (S.faults store.new ≡ S.faults store.old) }
-    ensures reported { IfErr result (λ fault.
-        ReportsStoreFault (Some fault) (S.faults store.old) (S.faults store.new)) }
-    ensures closed { S.opened store.new ≡ Nothing }
-    ensures kept { S.files store.new ≡ S.files store.old }
+    ensures store { OnlyReads result (S.files store.old) (S.faults store.old)
+        (S.files store.new) (S.faults store.new) (S.opened store.new) }
 {
     let TypedCells { table, name } = typed;
     let strengths = open_strengths(alloc, names.table, table, store)?;
@@ -91,11 +88,8 @@ fn open_cells<S: Store>(
         OfFile (S.files store.old) name.now MAX_CELLS (IsLibraryOf library table.now)) }
     ensures cause { IfErr result (IsFileStage table.now name.now (S.files store.old)
         (S.faults store.old) (S.faults store.new)) }
-    ensures quiet { OnOk result (S.faults store.new ≡ S.faults store.old) }
-    ensures reported { IfErr result (λ fault.
-        ReportsStoreFault (Some fault) (S.faults store.old) (S.faults store.new)) }
-    ensures closed { S.opened store.new ≡ Nothing }
-    ensures kept { S.files store.new ≡ S.files store.old }
+    ensures store { OnlyReads result (S.files store.old) (S.faults store.old)
+        (S.files store.new) (S.faults store.new) (S.opened store.new) }
 {
     let bytes = read_input(alloc, name, typed, MAX_CELLS, store)?;
     library_in(alloc, table, bytes.as_bytes())

@@ -2,7 +2,7 @@
 ghost use Rattle.std.specs.Prelude.{◌≡◌, ◌<◌, Some, IfErr, IfOk, OnOk};
 ghost use Rattle.ca_store.specs.Store.{Nothing};
 ghost use Rattle.ca_store.specs.ReadFault.{IsWhole};
-ghost use Rattle.ca_load.specs.Files.{IsReadCause, ReportsStoreFault};
+ghost use Rattle.ca_load.specs.Files.{IsReadCause, OnlyReads};
 
 use ca_fault::Fault;
 use ca_lex::Text;
@@ -25,11 +25,8 @@ pub fn read_input<S: Store>(
     ensures ok { IfOk result (IsWhole (S.files store.old) name.now limit) }
     ensures cause { IfErr result (IsReadCause name.now (S.files store.old) limit
         (S.faults store.old) (S.faults store.new)) }
-    ensures quiet { OnOk result (S.faults store.new ≡ S.faults store.old) }
-    ensures reported { IfErr result (λ fault.
-        ReportsStoreFault (Some fault) (S.faults store.old) (S.faults store.new)) }
-    ensures closed { S.opened store.new ≡ Nothing }
-    ensures kept { S.files store.new ≡ S.files store.old }
+    ensures store { OnlyReads result (S.files store.old) (S.faults store.old)
+        (S.files store.new) (S.faults store.new) (S.opened store.new) }
 {
     match read_file(alloc, store, name, limit) {
         Ok(text) => Ok(text),

@@ -2,7 +2,7 @@
 ghost use Rattle.std.specs.Prelude.{◌≡◌, Some, IfErr, IfOk, OnOk};
 ghost use Rattle.ca_store.specs.Store.{Nothing};
 ghost use Rattle.ca_scan.specs.ChainFault.{AreAllChains};
-ghost use Rattle.ca_load.specs.Files.{ReportsStoreFault};
+ghost use Rattle.ca_load.specs.Files.{OnlyReads};
 ghost use Rattle.ca_load.specs.Texts.{names_of, OfInputs};
 ghost use Rattle.ca_load.specs.Chips.{IsChipOf};
 ghost use Rattle.ca_load.specs.Causes.{IsLoadCause};
@@ -43,11 +43,8 @@ pub fn load<S: Store>(alloc: Global, names: &FileNames<'_>, store: &mut S) -> Re
     ensures chains { IfOk result (λ loaded. AreAllChains loaded.chip loaded.chains) }
     ensures cause { IfErr result (IsLoadCause (names_of names.now) (S.files store.old)
         (S.faults store.old) (S.faults store.new)) }
-    ensures quiet { OnOk result (S.faults store.new ≡ S.faults store.old) }
-    ensures reported { IfErr result (λ fault.
-        ReportsStoreFault (Some fault) (S.faults store.old) (S.faults store.new)) }
-    ensures closed { S.opened store.new ≡ Nothing }
-    ensures kept { S.files store.new ≡ S.files store.old }
+    ensures store { OnlyReads result (S.files store.old) (S.faults store.old)
+        (S.files store.new) (S.faults store.new) (S.opened store.new) }
 {
     let read = read_all(alloc, names, store)?;
     link_all(alloc, read)

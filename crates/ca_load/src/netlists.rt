@@ -2,7 +2,7 @@
 ghost use Rattle.std.specs.Prelude.{◌≡◌, Some, IfErr, IfOk, OnOk};
 ghost use Rattle.ca_store.specs.Store.{Nothing};
 ghost use Rattle.ca_verilog.specs.IsNetlist.{IsNetlist};
-ghost use Rattle.ca_load.specs.Files.{OfFile, ReportsStoreFault};
+ghost use Rattle.ca_load.specs.Files.{OfFile, OnlyReads};
 ghost use Rattle.ca_load.specs.Texts.{IsNetlistOf};
 ghost use Rattle.ca_load.specs.Causes.{IsNetlistCause};
 ghost use Rattle.ca_load.specs.code.Stages.{IsNetlistStage};
@@ -32,11 +32,8 @@ pub(crate) fn open_netlist<S: Store>(
     ensures rules { IfOk result IsNetlist }
     ensures cause { IfErr result (IsNetlistCause name.now (S.files store.old)
         (S.faults store.old) (S.faults store.new)) }
-    ensures quiet { OnOk result (S.faults store.new ≡ S.faults store.old) }
-    ensures reported { IfErr result (λ fault.
-        ReportsStoreFault (Some fault) (S.faults store.old) (S.faults store.new)) }
-    ensures closed { S.opened store.new ≡ Nothing }
-    ensures kept { S.files store.new ≡ S.files store.old }
+    ensures store { OnlyReads result (S.files store.old) (S.faults store.old)
+        (S.files store.new) (S.faults store.new) (S.opened store.new) }
 {
     let bytes = read_input(alloc, name, typed, MAX_NETLIST, store)?;
     netlist_in(alloc, bytes.as_bytes())

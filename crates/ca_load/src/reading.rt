@@ -5,7 +5,7 @@ ghost use Rattle.std.specs.Str.{bytes_eq};
 ghost use Rattle.ca_store.specs.Store.{Nothing};
 ghost use Rattle.ca_cell.specs.Library.{raw_of};
 ghost use Rattle.ca_verilog.specs.IsNetlist.{IsNetlist};
-ghost use Rattle.ca_load.specs.Files.{ReportsStoreFault};
+ghost use Rattle.ca_load.specs.Files.{OnlyReads};
 ghost use Rattle.ca_load.specs.Texts.{names_of};
 ghost use Rattle.ca_load.specs.code.Texts.{AreRead};
 ghost use Rattle.ca_load.specs.Causes.{IsInputCause};
@@ -70,11 +70,8 @@ pub(crate) fn read_all<S: Store>(
     ensures distinct { IfOk result (λ read. IsDistinct bytes_eq (map (λ row. row.cell) read.scan)) }
     ensures cause { IfErr result (IsInputCause (names_of names.now) (S.files store.old)
         (S.faults store.old) (S.faults store.new)) }
-    ensures quiet { OnOk result (S.faults store.new ≡ S.faults store.old) }
-    ensures reported { IfErr result (λ fault.
-        ReportsStoreFault (Some fault) (S.faults store.old) (S.faults store.new)) }
-    ensures closed { S.opened store.new ≡ Nothing }
-    ensures kept { S.files store.new ≡ S.files store.old }
+    ensures store { OnlyReads result (S.files store.old) (S.faults store.old)
+        (S.files store.new) (S.faults store.new) (S.opened store.new) }
 {
     let typed = typed_names(alloc, names)?;
     let library = open_library(alloc, &names.cells, typed.cells, store)?;

@@ -2,7 +2,7 @@
 ghost use Rattle.std.specs.Prelude.{◌≡◌, [], Some, IfErr, IfOk, OnOk, unwrap_or};
 ghost use Rattle.std.specs.Option.{option_copied};
 ghost use Rattle.ca_store.specs.Store.{Nothing};
-ghost use Rattle.ca_load.specs.Files.{OfFile, ReportsStoreFault};
+ghost use Rattle.ca_load.specs.Files.{OfFile, OnlyReads};
 ghost use Rattle.ca_load.specs.Causes.{IsNamedTableCause, IsStrengthsCause};
 ghost use Rattle.ca_load.specs.code.Texts.{IsTableText, IsStrengthsAt};
 ghost use Rattle.ca_load.specs.code.Stages.{IsRatiosStage};
@@ -33,11 +33,8 @@ pub(crate) fn open_strengths<S: Store>(
     ensures ok { IfOk result (IsStrengthsAt (S.files store.old) (option_copied name.entry)) }
     ensures cause { IfErr result (IsStrengthsCause (option_copied name.entry) (S.files store.old)
         (S.faults store.old) (S.faults store.new)) }
-    ensures quiet { OnOk result (S.faults store.new ≡ S.faults store.old) }
-    ensures reported { IfErr result (λ fault.
-        ReportsStoreFault (Some fault) (S.faults store.old) (S.faults store.new)) }
-    ensures closed { S.opened store.new ≡ Nothing }
-    ensures kept { S.files store.new ≡ S.files store.old }
+    ensures store { OnlyReads result (S.files store.old) (S.faults store.old)
+        (S.files store.new) (S.faults store.new) (S.opened store.new) }
 {
     match name {
         Some(name) => read_ratios(alloc, name, typed, store),
@@ -59,11 +56,8 @@ fn read_ratios<S: Store>(
         OfFile (S.files store.old) name.now MAX_STRENGTHS (IsTableText table)) }
     ensures cause { IfErr result (IsNamedTableCause name.now (S.files store.old)
         (S.faults store.old) (S.faults store.new)) }
-    ensures quiet { OnOk result (S.faults store.new ≡ S.faults store.old) }
-    ensures reported { IfErr result (λ fault.
-        ReportsStoreFault (Some fault) (S.faults store.old) (S.faults store.new)) }
-    ensures closed { S.opened store.new ≡ Nothing }
-    ensures kept { S.files store.new ≡ S.files store.old }
+    ensures store { OnlyReads result (S.files store.old) (S.faults store.old)
+        (S.files store.new) (S.faults store.new) (S.opened store.new) }
 {
     let bytes = read_input(alloc, name, typed, MAX_STRENGTHS, store)?;
     strengths_in(alloc, bytes.as_bytes())

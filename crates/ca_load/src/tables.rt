@@ -4,7 +4,7 @@ ghost use Rattle.std.specs.List.{IsDistinct};
 ghost use Rattle.std.specs.Option.{option_copied};
 ghost use Rattle.std.specs.Str.{bytes_eq};
 ghost use Rattle.ca_store.specs.Store.{Nothing};
-ghost use Rattle.ca_load.specs.Files.{OfFile, ReportsStoreFault};
+ghost use Rattle.ca_load.specs.Files.{OfFile, OnlyReads};
 ghost use Rattle.ca_load.specs.Texts.{IsTableOf, IsTableAt};
 ghost use Rattle.ca_load.specs.Causes.{IsTableCause, IsScanCause};
 ghost use Rattle.ca_load.specs.code.Stages.{IsTableStage};
@@ -35,11 +35,8 @@ pub(crate) fn open_table<S: Store>(
     ensures distinct { IfOk result (λ table. IsDistinct bytes_eq (map (λ row. row.cell) table)) }
     ensures cause { IfErr result (IsScanCause (option_copied name.entry) (S.files store.old)
         (S.faults store.old) (S.faults store.new)) }
-    ensures quiet { OnOk result (S.faults store.new ≡ S.faults store.old) }
-    ensures reported { IfErr result (λ fault.
-        ReportsStoreFault (Some fault) (S.faults store.old) (S.faults store.new)) }
-    ensures closed { S.opened store.new ≡ Nothing }
-    ensures kept { S.files store.new ≡ S.files store.old }
+    ensures store { OnlyReads result (S.files store.old) (S.faults store.old)
+        (S.files store.new) (S.faults store.new) (S.opened store.new) }
 {
     match name {
         Some(name) => read_rows(alloc, name, typed, store),
@@ -61,11 +58,8 @@ fn read_rows<S: Store>(
     ensures distinct { IfOk result (λ table. IsDistinct bytes_eq (map (λ row. row.cell) table)) }
     ensures cause { IfErr result (IsTableCause name.now (S.files store.old)
         (S.faults store.old) (S.faults store.new)) }
-    ensures quiet { OnOk result (S.faults store.new ≡ S.faults store.old) }
-    ensures reported { IfErr result (λ fault.
-        ReportsStoreFault (Some fault) (S.faults store.old) (S.faults store.new)) }
-    ensures closed { S.opened store.new ≡ Nothing }
-    ensures kept { S.files store.new ≡ S.files store.old }
+    ensures store { OnlyReads result (S.files store.old) (S.faults store.old)
+        (S.files store.new) (S.faults store.new) (S.opened store.new) }
 {
     let bytes = read_input(alloc, name, typed, MAX_SCAN, store)?;
     table_in(alloc, bytes.as_bytes())

@@ -5,7 +5,7 @@ ghost use Rattle.ca_defect.specs.Name.{names_of};
 ghost use Rattle.ca_load.specs.Texts.{cells_of};
 ghost use Rattle.ca_on_cell.specs.Cells.{OfCell};
 ghost use Rattle.ca_on_cell.specs.Causes.{IsCellCause};
-ghost use Rattle.ca_load.specs.Files.{ReportsStoreFault};
+ghost use Rattle.ca_load.specs.Files.{OnlyReads};
 ghost use Rattle.ca_on_cell.specs.Defects.{AreDefectNames};
 
 use crate::inputs::{find_cell, typed_words};
@@ -32,11 +32,8 @@ pub fn find_names<S: Store>(
         OfCell (S.files store.old) (cells_of request.now.files) request.now.cell.now (AreDefectNames names)) }
     ensures cause { IfErr result (IsCellCause (cells_of request.now.files) request.now.cell.now
         (S.files store.old) (S.faults store.old) (S.faults store.new)) }
-    ensures quiet { OnOk result (S.faults store.new ≡ S.faults store.old) }
-    ensures reported { IfErr result (λ fault.
-        ReportsStoreFault (Some fault) (S.faults store.old) (S.faults store.new)) }
-    ensures closed { S.opened store.new ≡ Nothing }
-    ensures kept { S.files store.new ≡ S.files store.old }
+    ensures store { OnlyReads result (S.files store.old) (S.faults store.old)
+        (S.files store.new) (S.faults store.new) (S.opened store.new) }
 {
     let typed = typed_words(alloc, request)?;
     let library = open_library(alloc, &request.files, typed.cells, store)?;

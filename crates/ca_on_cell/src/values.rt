@@ -7,7 +7,7 @@ ghost use Rattle.ca_on_cell.specs.Cells.{OfCell};
 ghost use Rattle.ca_on_cell.specs.Outputs.{letters_of, Fits, AreValues};
 ghost use Rattle.ca_on_cell.specs.Causes.{IsValueCause};
 ghost use Rattle.ca_on_cell.specs.code.Stages.{IsEvaluationCause, IsUnfit};
-ghost use Rattle.ca_load.specs.Files.{ReportsStoreFault};
+ghost use Rattle.ca_load.specs.Files.{OnlyReads};
 
 use crate::inputs::{find_cell, typed_words};
 use crate::outputs::values_of;
@@ -37,11 +37,8 @@ pub fn find_values<S: Store>(
     ensures cause { IfErr result (IsValueCause (cells_of request.now.of.files) request.now.of.cell.now
         request.now.first.now request.now.last.now request.now.defect.now
         (S.files store.old) (S.faults store.old) (S.faults store.new)) }
-    ensures quiet { OnOk result (S.faults store.new ≡ S.faults store.old) }
-    ensures reported { IfErr result (λ fault.
-        ReportsStoreFault (Some fault) (S.faults store.old) (S.faults store.new)) }
-    ensures closed { S.opened store.new ≡ Nothing }
-    ensures kept { S.files store.new ≡ S.files store.old }
+    ensures store { OnlyReads result (S.files store.old) (S.faults store.old)
+        (S.files store.new) (S.faults store.new) (S.opened store.new) }
 {
     let typed = typed_words(alloc, &request.of)?;
     let library = open_library(alloc, &request.of.files, typed.cells, store)?;

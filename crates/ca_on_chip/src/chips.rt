@@ -3,7 +3,7 @@ ghost use Rattle.std.specs.Prelude.{◌≡◌, Some, IfErr, IfOk, OnOk};
 ghost use Rattle.std.specs.List.{All};
 ghost use Rattle.ca_flat_text.specs.FlatText.{HasLine};
 ghost use Rattle.ca_store.specs.Store.{Nothing};
-ghost use Rattle.ca_load.specs.Files.{ReportsStoreFault};
+ghost use Rattle.ca_load.specs.Files.{OnlyReads};
 ghost use Rattle.ca_load.specs.Texts.{names_of};
 ghost use Rattle.ca_request.specs.Asked.{AreBothOrNeither, IsDefectStage};
 ghost use Rattle.ca_on_chip.specs.OnChip.{IsTracedChipOf, IsFlatOf, AreEndsOf};
@@ -53,11 +53,8 @@ pub fn find_flat<S: Store>(
     ensures cause { IfErr result (IsFlatCause (names_of request.now.files)
         request.now.instance.now request.now.defect.now
         (S.files store.old) (S.faults store.old) (S.faults store.new)) }
-    ensures quiet { OnOk result (S.faults store.new ≡ S.faults store.old) }
-    ensures reported { IfErr result (λ fault.
-        ReportsStoreFault (Some fault) (S.faults store.old) (S.faults store.new)) }
-    ensures closed { S.opened store.new ≡ Nothing }
-    ensures kept { S.files store.new ≡ S.files store.old }
+    ensures store { OnlyReads result (S.files store.old) (S.faults store.old)
+        (S.files store.new) (S.faults store.new) (S.opened store.new) }
 {
     let Loaded { chip, .. } = load(alloc, &request.files, store)?;
     let net = flat_of(alloc, &chip, request.instance, request.defect)?;
@@ -96,11 +93,8 @@ pub fn find_simulation<S: Store>(
     ensures cause { IfErr result (IsEndsCause (names_of request.now.of.files)
         request.now.of.instance.now request.now.of.defect.now request.now.first.now request.now.last.now
         (S.files store.old) (S.faults store.old) (S.faults store.new)) }
-    ensures quiet { OnOk result (S.faults store.new ≡ S.faults store.old) }
-    ensures reported { IfErr result (λ fault.
-        ReportsStoreFault (Some fault) (S.faults store.old) (S.faults store.new)) }
-    ensures closed { S.opened store.new ≡ Nothing }
-    ensures kept { S.files store.new ≡ S.files store.old }
+    ensures store { OnlyReads result (S.files store.old) (S.faults store.old)
+        (S.files store.new) (S.faults store.new) (S.opened store.new) }
 {
     let Loaded { chip, .. } = load(alloc, &request.of.files, store)?;
     let ends = ends_of(alloc, &chip, request)?;

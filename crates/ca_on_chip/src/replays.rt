@@ -1,7 +1,7 @@
 //! What `replay` asks for.
 ghost use Rattle.std.specs.Prelude.{◌≡◌, Some, IfErr, IfOk, OnOk};
 ghost use Rattle.ca_store.specs.Store.{Nothing};
-ghost use Rattle.ca_load.specs.Files.{OfFile, ReportsStoreFault};
+ghost use Rattle.ca_load.specs.Files.{OfFile, OnlyReads};
 ghost use Rattle.ca_load.specs.Texts.{names_of};
 ghost use Rattle.ca_request.specs.Asked.{AreBothOrNeither, IsAskedDefect, IsLibraryDefect, FitsInputs};
 ghost use Rattle.ca_request.specs.Vectors.{letters_of};
@@ -51,11 +51,8 @@ pub fn find_replay<S: Store>(
         request.now.of.of.instance.now request.now.of.of.defect.now
         request.now.of.first.now request.now.of.last.now request.now.order.now
         (S.files store.old) (S.faults store.old) (S.faults store.new)) }
-    ensures quiet { OnOk result (S.faults store.new ≡ S.faults store.old) }
-    ensures reported { IfErr result (λ fault.
-        ReportsStoreFault (Some fault) (S.faults store.old) (S.faults store.new)) }
-    ensures closed { S.opened store.new ≡ Nothing }
-    ensures kept { S.files store.new ≡ S.files store.old }
+    ensures store { OnlyReads result (S.files store.old) (S.faults store.old)
+        (S.files store.new) (S.faults store.new) (S.opened store.new) }
 {
     let typed = Text::from_bytes(alloc, request.order.as_bytes())?;
     let Loaded { chip, .. } = load(alloc, &request.of.of.files, store)?;
@@ -83,11 +80,8 @@ fn run_ends<S: Store>(
     ensures cause { IfErr result (IsRunStage request.now.of.of.instance.now request.now.of.of.defect.now
         request.now.of.first.now request.now.of.last.now request.now.order.now chip.now
         (S.files store.old) (S.faults store.old) (S.faults store.new)) }
-    ensures quiet { OnOk result (S.faults store.new ≡ S.faults store.old) }
-    ensures reported { IfErr result (λ fault.
-        ReportsStoreFault (Some fault) (S.faults store.old) (S.faults store.new)) }
-    ensures closed { S.opened store.new ≡ Nothing }
-    ensures kept { S.files store.new ≡ S.files store.old }
+    ensures store { OnlyReads result (S.files store.old) (S.faults store.old)
+        (S.files store.new) (S.faults store.new) (S.opened store.new) }
 {
     let vectors = find_vectors(alloc, chip, request.of.first, request.of.last)?;
     let given = find_defect(alloc, chip, request.of.of.instance, request.of.of.defect)?;

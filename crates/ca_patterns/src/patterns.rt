@@ -4,7 +4,7 @@ ghost use Rattle.ca_store.specs.Store.{Nothing};
 ghost use Rattle.ca_credit.specs.declared.limit.TheConstants.{MOST_PAIRS};
 ghost use Rattle.ca_scan.specs.ChainFault.{AreAllChains};
 ghost use Rattle.ca_chip_stil.specs.ChipStil.{AreOfChip};
-ghost use Rattle.ca_load.specs.Files.{OfFile, ReportsStoreFault};
+ghost use Rattle.ca_load.specs.Files.{OfFile, OnlyReads};
 ghost use Rattle.ca_fault.specs.declared.fault.LimitKind.TheVariants as limit;
 ghost use Rattle.ca_patterns.specs.Patterns.{IsPatternsOf, AreFew};
 ghost use Rattle.ca_patterns.specs.Stages.{IsPatternsStage};
@@ -45,11 +45,8 @@ pub fn open_patterns<S: Store>(
     ensures few { IfOk result AreFew }
     ensures cause { IfErr result (IsPatternsStage chip.now chains.now name.now (S.files store.old)
         (S.faults store.old) (S.faults store.new)) }
-    ensures quiet { OnOk result (S.faults store.new ≡ S.faults store.old) }
-    ensures reported { IfErr result (λ fault.
-        ReportsStoreFault (Some fault) (S.faults store.old) (S.faults store.new)) }
-    ensures closed { S.opened store.new ≡ Nothing }
-    ensures kept { S.files store.new ≡ S.files store.old }
+    ensures store { OnlyReads result (S.files store.old) (S.faults store.old)
+        (S.files store.new) (S.faults store.new) (S.opened store.new) }
 {
     let bytes = read_input(alloc, name, typed, MAX_STIL, store)?;
     patterns_in(alloc, chip, chains, bytes.as_bytes())

@@ -2,7 +2,7 @@
 ghost use Rattle.std.specs.Prelude.{◌≡◌, length, Some, IfErr, IfOk, OnOk};
 ghost use Rattle.ca_store.specs.Store.{Nothing};
 ghost use Rattle.ca_chip_cert.specs.Listed.{listed_defects, viewed_defects};
-ghost use Rattle.ca_load.specs.Files.{OfFile, ReportsStoreFault};
+ghost use Rattle.ca_load.specs.Files.{OfFile, OnlyReads};
 ghost use Rattle.ca_verifying.specs.declared.certificates.TheConstants.{MAX_CERT};
 ghost use Rattle.ca_verifying.specs.Verifying.{IsCertificateIn, HasOneEach};
 ghost use Rattle.ca_verifying.specs.code.Stages.{IsCountStage, IsCertTextStage, IsCertStage};
@@ -40,11 +40,8 @@ pub(crate) fn open_certificate<S: Store>(
     ensures one_each { IfOk result (HasOneEach chip.now) }
     ensures cause { IfErr result (IsCertStage chip.now name.now (S.files store.old)
         (S.faults store.old) (S.faults store.new)) }
-    ensures quiet { OnOk result (S.faults store.new ≡ S.faults store.old) }
-    ensures reported { IfErr result (λ fault.
-        ReportsStoreFault (Some fault) (S.faults store.old) (S.faults store.new)) }
-    ensures closed { S.opened store.new ≡ Nothing }
-    ensures kept { S.files store.new ≡ S.files store.old }
+    ensures store { OnlyReads result (S.files store.old) (S.faults store.old)
+        (S.files store.new) (S.faults store.new) (S.opened store.new) }
 {
     let bytes = read_input(alloc, name, typed, MAX_CERT, store)?;
     certificate_in(alloc, chip, bytes.as_bytes())

@@ -5,7 +5,7 @@ ghost use Rattle.ca_scan.specs.ChainFault.{AreAllChains};
 ghost use Rattle.ca_core.specs.Core.{core_of};
 ghost use Rattle.ca_chip_stil.specs.ChipStil.{AreOfChip};
 ghost use Rattle.ca_expected.specs.Expected.{AreExpected};
-ghost use Rattle.ca_load.specs.Files.{OfFile, ReportsStoreFault};
+ghost use Rattle.ca_load.specs.Files.{OfFile, OnlyReads};
 ghost use Rattle.ca_load.specs.Chips.{IsChipOf};
 ghost use Rattle.ca_load.specs.Texts.{names_of, OfInputs};
 ghost use Rattle.ca_patterns.specs.declared.patterns.TheConstants.{MAX_STIL};
@@ -63,11 +63,8 @@ pub(crate) fn load_claimed<S: Store>(
     ensures one_each { IfOk result (λ found. HasOneEach found.chip found.certificate) }
     ensures cause { IfErr result (IsVerifiedCause (names_of names.now) stil.now
         cert.now (S.files store.old) (S.faults store.old) (S.faults store.new)) }
-    ensures quiet { OnOk result (S.faults store.new ≡ S.faults store.old) }
-    ensures reported { IfErr result (λ fault.
-        ReportsStoreFault (Some fault) (S.faults store.old) (S.faults store.new)) }
-    ensures closed { S.opened store.new ≡ Nothing }
-    ensures kept { S.files store.new ≡ S.files store.old }
+    ensures store { OnlyReads result (S.files store.old) (S.faults store.old)
+        (S.files store.new) (S.faults store.new) (S.opened store.new) }
 {
     let typed = Text::from_bytes(alloc, cert.as_bytes())?;
     let PatternedChip { chip, chains, file } = load_patterns(alloc, names, stil, store)?;
@@ -102,11 +99,8 @@ fn judged_certificate<S: Store>(
     ensures one_each { IfOk result (HasOneEach chip.now) }
     ensures cause { IfErr result (IsJudgedStage chip.now file.now name.now (S.files store.old)
         (S.faults store.old) (S.faults store.new)) }
-    ensures quiet { OnOk result (S.faults store.new ≡ S.faults store.old) }
-    ensures reported { IfErr result (λ fault.
-        ReportsStoreFault (Some fault) (S.faults store.old) (S.faults store.new)) }
-    ensures closed { S.opened store.new ≡ Nothing }
-    ensures kept { S.files store.new ≡ S.files store.old }
+    ensures store { OnlyReads result (S.files store.old) (S.faults store.old)
+        (S.files store.new) (S.faults store.new) (S.opened store.new) }
 {
     match judge_chip(
         alloc,

@@ -19,4 +19,4 @@ returns-in_err-log-clause-cause g c =
     (IsDiagnosedCause names request.stil.now request.log.now files before after)
     c.from_residual-in_err-log.ensures.1
     (at_logged files (g.S.Store.files c.load_patterns.new.store) names request.stil.now request.log.now before between after found.chip
-    found.chains found.file fault read.kept read.quiet read.chip read.chains read.patterns read.few (c.in_err-log.ensures).cause)
+    found.chains found.file fault read.store.kept read.store.quiet read.chip read.chains read.patterns read.few (c.in_err-log.ensures).cause)

@@ -41,11 +41,11 @@ returns-in-Err-clause-ends g c =
       answer = answer;
       asked = refused_asked words end c.in-Err.fault is status none before.files;
       prints = refused_prints words end c.in-Err.fault is status none before.bytes;
-      writes = subst (λ files. Writes words end before.files files) (sym (c.in-Err.ensures).kept)
+      writes = subst (λ files. Writes words end before.files files) (sym (c.in-Err.ensures).store.kept)
           (refused_writes words end c.in-Err.fault is status none before.files);
       cause = cause;
       complete = completes words before after end answer cause;
-      of_store = rw is (c.in-Err.ensures).reported;
+      of_store = rw is (c.in-Err.ensures).store.reported;
       of_sink = search rules;
     }
 
@@ -72,10 +72,10 @@ returns-in-Ok-clause-ends g c =
     } in
     let work = c.in-Ok.work in
     let asked = (c.in-Ok.ensures).asked words (c.in-Some.ensures).found in
-    let same : mid ≡ before = rw ((c.in-Ok.ensures).kept, (c.in-Ok.ensures).quiet) refl in
+    let same : mid ≡ before = rw ((c.in-Ok.ensures).store.kept, (c.in-Ok.ensures).store.quiet) refl in
     let whole : EndsWork words mid after work.done c.finish.result =
     c.finish.ensures.ends words ((c.in-Ok.ensures).file words (c.in-Some.ensures).found)
-    (subst (λ files. IsAsked words files work.done) (sym (c.in-Ok.ensures).kept) asked) in
+    (subst (λ files. IsAsked words files work.done) (sym (c.in-Ok.ensures).store.kept) asked) in
     let ends : EndsWork words before after work.done c.finish.result =
     subst (λ state. EndsWork words state after work.done c.finish.result) same whole in
     let cause = work_cause words before after c.finish.result.fault ends.cause in
@@ -109,7 +109,7 @@ returns-in-Ok-clause-uncalled g c = λ bad.
     let asked = (c.in-Ok.ensures).asked words (c.in-Some.ensures).found in
     let whole : EndsWork words mid after work.done c.finish.result =
     c.finish.ensures.ends words ((c.in-Ok.ensures).file words (c.in-Some.ensures).found)
-    (subst (λ files. IsAsked words files work.done) (sym (c.in-Ok.ensures).kept) asked) in
+    (subst (λ files. IsAsked words files work.done) (sym (c.in-Ok.ensures).store.kept) asked) in
     absurd (work_has_words words mid after c.finish.result.fault whole.cause bad)
 
 pub returns-in-Err-clause-uncalled : goal.returns-in-Err-clause-uncalled

@@ -19,7 +19,7 @@ returns-in_err-netlist-clause-cause g c =
     handed_on c.from_residual-in_err-netlist.result fault (IsInputCause names files before after)
     c.from_residual-in_err-netlist.ensures.1
     (at_netlist names files (g.S.Store.files c.open_library.new.store) before
-    (g.S.Store.faults c.open_library.new.store) after read.kept read.quiet c.in_ok-library.library read.ok fault
+    (g.S.Store.faults c.open_library.new.store) after read.store.kept read.store.quiet c.in_ok-library.library read.ok fault
     (c.in_err-netlist.ensures).cause)
 
 pub returns-in_err-scan-clause-cause : goal.returns-in_err-scan-clause-cause
@@ -32,9 +32,9 @@ returns-in_err-scan-clause-cause g c =
     let read = c.in_ok-library.ensures in
     let next = c.in_ok-netlist.ensures in
     let netlist : OfFile files names.netlist MAX_NETLIST (IsNetlistOf c.in_ok-netlist.netlist) =
-    subst (λ (some : Option Files). OfFile some names.netlist MAX_NETLIST (IsNetlistOf c.in_ok-netlist.netlist)) read.kept next.ok in
+    subst (λ (some : Option Files). OfFile some names.netlist MAX_NETLIST (IsNetlistOf c.in_ok-netlist.netlist)) read.store.kept next.ok in
     handed_on c.from_residual-in_err-scan.result fault (IsInputCause names files before after)
     c.from_residual-in_err-scan.ensures.1
     (at_scan names files (g.S.Store.files c.open_netlist.new.store) before
-    (g.S.Store.faults c.open_netlist.new.store) after (next.kept ∙ read.kept) (next.quiet ∙ read.quiet)
+    (g.S.Store.faults c.open_netlist.new.store) after (next.store.kept ∙ read.store.kept) (next.store.quiet ∙ read.store.quiet)
     c.in_ok-library.library read.ok fault c.in_ok-netlist.netlist netlist (c.in_err-scan.ensures).cause)

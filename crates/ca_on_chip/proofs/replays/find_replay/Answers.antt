@@ -1,3 +1,4 @@
+use Rattle.std.proofs.Common.{rules}
 use Rattle.std.specs.Prelude.{Some}
 use Rattle.ca_load.specs.Texts.{names_of}
 use Rattle.ca_load.specs.Files.{ReportsStoreFault}
@@ -23,15 +24,20 @@ returns-in_err-ends-clause-cause g c =
     (IsRunCause names request.of.of.instance.now request.of.of.defect.now request.of.first.now request.of.last.now request.order.now files before after)
     c.from_residual-in_err-ends.ensures.1
     (at_run names files (g.S.Store.files c.load.new.store) before between after c.in_ok-chip.field-0.chip request.of.of.instance.now
-    request.of.of.defect.now request.of.first.now request.of.last.now request.order.now fault read.kept read.quiet traced (c.in_err-ends.ensures).cause)
+    request.of.of.defect.now request.of.first.now request.of.last.now request.order.now fault read.store.kept read.store.quiet traced (c.in_err-ends.ensures).cause)
 
-pub returns-in_err-ends-clause-reported : goal.returns-in_err-ends-clause-reported
-returns-in_err-ends-clause-reported g c =
+pub returns-in_err-ends-clause-store : goal.returns-in_err-ends-clause-store
+returns-in_err-ends-clause-store g c =
     let before = g.S.Store.faults c.args.store.now in
     let between = g.S.Store.faults c.load.new.store in
     let after = g.S.Store.faults c.run_ends.new.store in
     let fault = c.in_err-ends.field-0.0 in
     let read = c.in_ok-chip.ensures in
-    handed_on c.from_residual-in_err-ends.result fault (λ fault. ReportsStoreFault (Some fault) before after)
-    c.from_residual-in_err-ends.ensures.1
-    (reported_since (Some fault) before between after read.quiet (c.in_err-ends.ensures).reported)
+    record {
+      quiet = search rules;
+      reported = handed_on c.from_residual-in_err-ends.result fault (λ fault. ReportsStoreFault (Some fault) before after)
+          c.from_residual-in_err-ends.ensures.1
+          (reported_since (Some fault) before between after read.store.quiet (c.in_err-ends.ensures).store.reported);
+      closed = search rules;
+      kept = search rules;
+    }

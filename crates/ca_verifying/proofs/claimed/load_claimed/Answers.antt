@@ -18,4 +18,4 @@ returns-in_err-certificate-clause-cause g c =
     (IsVerifiedCause names c.args.stil.now c.args.cert.now files before after)
     c.from_residual-in_err-certificate.ensures.1
     (at_claimed files (g.S.Store.files c.load_patterns.new.store) names c.args.stil.now c.args.cert.now before between after found.chip
-    found.chains found.file fault read.kept read.quiet read.chip read.chains read.patterns read.few (c.in_err-certificate.ensures).cause)
+    found.chains found.file fault read.store.kept read.store.quiet read.chip read.chains read.patterns read.few (c.in_err-certificate.ensures).cause)
