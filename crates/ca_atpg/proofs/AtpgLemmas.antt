@@ -7,9 +7,9 @@ use Rattle.std.proofs.lemmas.List.{length-map, map-id}
 use Rattle.std.proofs.lemmas.List.Elements.{All-weaker, All-from_get_or}
 use Rattle.std.proofs.lemmas.Option.{slice_get-get_or, slice_get_within}
 use Rattle.ca_net.specs.declared.trit.Trit.{Trit}
-use Rattle.ca_defect.specs.declared.defect.Defect.TheVariants.{OpenPin}
+use Rattle.ca_cell.specs.declared.defect.Defect.TheVariants.{OpenPin}
 use Rattle.ca_linked.specs.Linked.{LinkedChip, inputs_of, outputs_of, IsWired}
-use Rattle.ca_core.specs.Core.{core_of, core_net}
+use Rattle.ca_view.specs.Core.{core_of, core_net}
 use Rattle.ca_outputs.specs.Outputs.{output_names}
 use Rattle.ca_flat.specs.declared.chip_defect.ChipDefect.{ChipDefect}
 use Rattle.ca_flat.specs.Chip.{IsDefectIn}

@@ -7,7 +7,7 @@ use Rattle.ca_flat.specs.Chip.{Chip}
 use Rattle.ca_flat.specs.Detection.{trits_of}
 use Rattle.ca_merged.specs.Bridge.{BridgeDetectsAt}
 use Rattle.ca_linked.specs.Linked.{outputs_of}
-use Rattle.ca_core.specs.Core.{core_net, core_of}
+use Rattle.ca_view.specs.Core.{core_net, core_of}
 use Rattle.ca_bridge_verdicts.specs.Bridges.{Ends}
 use Rattle.ca_bridge_verdicts.specs.Good.{IsFirstBridgeOutput, IsFirstBridgeDetection}
 use Rattle.ca_bridge_verdicts.specs.declared.verdict.BridgeVerdict.{BridgeVerdict}

@@ -6,7 +6,7 @@ use Rattle.ca_flat.specs.declared.token.Token.{Token}
 use Rattle.ca_flat.specs.Codes.{IsSpentCode}
 use Rattle.ca_flat.specs.Detection.{IsExposableIn}
 use Rattle.ca_linked.specs.Linked.{LinkedChip}
-use Rattle.ca_core.specs.Core.{core_of}
+use Rattle.ca_view.specs.Core.{core_of}
 use Rattle.ca_credit.specs.Good.{HasSupport, IsCheckedSpent}
 use Rattle.ca_credit.specs.Listed.{IsAscending, IsFoundFor}
 use Rattle.ca_cluster.specs.declared.bridge.Bridge.{Bridge}

@@ -12,7 +12,7 @@ use Rattle.ca_flat.specs.Chip.{Chip, IsChip}
 use Rattle.ca_flat.specs.Codes.{IsSpentCode}
 use Rattle.ca_flat.specs.Detection.{IsExposableIn}
 use Rattle.ca_linked.specs.Linked.{LinkedChip}
-use Rattle.ca_core.specs.Core.{core_of}
+use Rattle.ca_view.specs.Core.{core_of}
 use Rattle.ca_merged.specs.Cluster.{cluster_cell}
 use Rattle.ca_merged.specs.Laws.{ClusterIsOne}
 use Rattle.ca_credit.specs.declared.verdict.Verdict.{Verdict}

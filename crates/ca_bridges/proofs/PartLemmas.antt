@@ -15,7 +15,7 @@ use Rattle.ca_flat.specs.Pair.{bit_count}
 use Rattle.ca_flat.specs.declared.chip_defect.ChipDefect.{ChipDefect}
 use Rattle.ca_flat.specs.Chip.{Chip, IsChip}
 use Rattle.ca_linked.specs.Linked.{LinkedChip}
-use Rattle.ca_core.specs.Core.{core_of}
+use Rattle.ca_view.specs.Core.{core_of}
 use Rattle.ca_credit.specs.Defects.{Task, StandsIn, AreTargets}
 use Rattle.ca_credit.specs.Good.{IsGood}
 use Rattle.ca_cluster.specs.declared.bridge.Bridge.{Bridge}

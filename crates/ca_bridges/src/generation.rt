@@ -3,7 +3,7 @@
 ghost use Rattle.std.specs.Prelude.{◌≡◌, ◌<◌, ◌≤◌, ◌+◌, ◌∷◌, List, length, map, IfOk};
 ghost use Rattle.std.specs.List.{All};
 ghost use Rattle.ca_flat.specs.Pair.{bit_count};
-ghost use Rattle.ca_core.specs.Core.{core_of};
+ghost use Rattle.ca_view.specs.Core.{core_of};
 ghost use Rattle.ca_view.specs.View.{IsViewOf};
 ghost use Rattle.ca_credit.specs.Good.{IsGood};
 ghost use Rattle.ca_credit.specs.declared.limit.TheConstants.{MOST_PAIRS};

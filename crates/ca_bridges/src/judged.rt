@@ -3,7 +3,7 @@
 ghost use Rattle.std.specs.Prelude.{◌≡◌, ◌≤◌, length, IfOk};
 ghost use Rattle.std.specs.List.{All};
 ghost use Rattle.ca_flat.specs.Pair.{bit_count};
-ghost use Rattle.ca_core.specs.Core.{core_of};
+ghost use Rattle.ca_view.specs.Core.{core_of};
 ghost use Rattle.ca_credit.specs.declared.limit.TheConstants.{MOST_PAIRS};
 ghost use Rattle.ca_targets.specs.Targets.{AreKnown, AreTargetsOf};
 ghost use Rattle.ca_bridge_verdicts.specs.Promise.{AreGoodVerdicts};
@@ -14,13 +14,13 @@ use crate::put::put_verdicts;
 use ca_base::NoMemory;
 use ca_bridge_verdicts::{BridgeVerdicts, good_targets_are_bridges};
 use ca_cluster::BridgeList;
-use ca_core::core_is_chip;
 use ca_credit::MOST_PAIRS;
 use ca_generate::{Aims, Generated, Watch};
 use ca_linked::Chip;
 use ca_merged::cluster_is_one;
 use ca_pair::Pairs;
 use ca_targets::{BridgeTargets, one_cluster, targets};
+use ca_view::core_is_chip;
 use std::alloc::Global;
 
 /// The listed pairs, for each the place of the bridge for which it was found, and a verdict for each bridge.

@@ -2,7 +2,7 @@
 
 ghost use Rattle.std.specs.Prelude.{◌≡◌, ◌<◌, ◌+◌, length, slice_get, Some, IfSome, IsSomeAnd, IfOk};
 ghost use Rattle.std.specs.List.{All};
-ghost use Rattle.ca_core.specs.Core.{core_of};
+ghost use Rattle.ca_view.specs.Core.{core_of};
 ghost use Rattle.ca_view.specs.View.{IsViewOf};
 ghost use Rattle.ca_judge.specs.Attempt.{IsTriedOn};
 ghost use Rattle.ca_sweep.specs.Seen.{IsForChip};

@@ -6,3 +6,15 @@ pub mod NodeLemmas
 pub mod OutputNameLemmas
 pub mod BrokenLemmas
 pub mod StrengthLemmas
+pub mod ListLemmas
+pub mod CircuitWithLemmas
+pub mod EachLemmas
+pub mod MemberLemmas
+pub mod CountLemmas
+pub mod CaseLemmas
+pub mod NameLemmas
+pub mod FindLemmas
+pub mod PlainLemmas
+pub mod DifferLemmas
+pub mod DistinctLemmas
+pub mod NumberLemmas

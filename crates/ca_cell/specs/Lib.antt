@@ -6,4 +6,11 @@ pub mod Library
 pub mod Nodes
 pub mod PlainNames
 pub mod Limits
+pub mod Defect
+pub mod List
+pub mod Name
+pub mod Overlay
+pub mod Row
+pub mod Exposes
+pub mod Laws
 pub mod code

@@ -1,3 +1,4 @@
 -- Words of the code: what its invariants and private contracts say. No public claim rests on them.
 pub mod Rules
 pub mod Entries
+pub mod Overlay

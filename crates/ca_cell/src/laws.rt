@@ -1,4 +1,4 @@
-//! Laws of the definitions, each the contract of a function that does nothing.
+//! The law of the limits, the contract of a function that does nothing.
 
 ghost use Rattle.ca_cell.specs.Limits.{Limits};
 

@@ -1,11 +1,10 @@
 //! A two-input NAND's defects by name, names that are typed, and its network with one defect of each kind.
 
 ghost use Rattle.std.specs.List.{All};
-ghost use Rattle.ca_defect.specs.List.{IsDefectOf};
+ghost use Rattle.ca_cell.specs.List.{IsDefectOf};
 
 use crate::examples::{LOWER_NAND2, Part, cell_of, try_network};
-use ca_cell::Cell;
-use ca_defect::{Defect, DefectList, Overlay, Row, Rows, defects, name, parse};
+use ca_cell::{Cell, Defect, DefectList, Overlay, Row, Rows, defects, name, parse};
 use ca_net::DeviceKind::{D, N, P};
 use ca_net::{BRIDGE, DeviceId, INNER_NODE, NodeId, NodeKind, OUTPUT_NET, STRONGEST};
 use std::alloc::Global;

@@ -4,7 +4,7 @@ ghost use Rattle.std.specs.Prelude.{◌≡◌, length};
 ghost use Rattle.ca_matrix.specs.Matrix.{shape_of, IsRowOf};
 
 use crate::examples::{AND2, NAND2, cell_of};
-use ca_defect::{Row, Rows, defects, parse};
+use ca_cell::{Row, Rows, defects, parse};
 use ca_matrix::{Matrix, exposing};
 use ca_net::Trit;
 use ca_net::Trit::{One, X, Zero};

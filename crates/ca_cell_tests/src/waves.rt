@@ -1,7 +1,7 @@
 //! The waves of a two-input NAND, with an open drain and without, and of two inverters in one cell.
 
 use crate::examples::{INVERTERS, NAND2, cell_of};
-use ca_defect::{Overlay, parse};
+use ca_cell::{Overlay, parse};
 use ca_net::Trit::{One, X, Zero};
 use ca_net::{Network, Trit, Wave};
 use ca_response::{CellNet, OutWaves, pairs, respond};

@@ -5,7 +5,7 @@ use Rattle.ca_flat.specs.Chip.{Chip}
 use Rattle.ca_linked.specs.Linked as linked
 use Rattle.ca_linked.specs.Linked.{IsWired}
 use Rattle.ca_linked.specs.Instances.{gates_of}
-use Rattle.ca_core.specs.Core.{core_of}
+use Rattle.ca_view.specs.Core.{core_of}
 use Rattle.ca_flatten.specs.Few.{IsFew}
 use Rattle.ca_flatten.specs.Laws.{FlatIsWellFormed}
 use Rattle.ca_view.specs.View.{Viewed, IsViewOf}

@@ -3,7 +3,7 @@ use Rattle.std.specs.Prelude.{List}
 use Rattle.ca_flat.specs.declared.chip_defect.ChipDefect.{ChipDefect}
 use Rattle.ca_linked.specs.Linked.{LinkedChip}
 use Rattle.ca_linked.specs.Instances.{gates_of}
-use Rattle.ca_core.specs.Core.{core_of}
+use Rattle.ca_view.specs.Core.{core_of}
 use Rattle.ca_view.specs.View.{Viewed}
 use Rattle.ca_chip_defects.specs.ChipDefects.{chip_defects}
 

@@ -10,7 +10,7 @@ use Rattle.ca_linked.specs.declared.parts.Part.{Part}
 use Rattle.ca_linked.specs.declared.parts.Body.TheVariants.{Gate, Scan}
 use Rattle.ca_linked.specs.Linked.{LinkedChip}
 use Rattle.ca_linked.specs.Instances.{if_gate, gates_from, gates_of}
-use Rattle.ca_core.specs.Core.{body_rank, rank_in, rank_of, core_of}
+use Rattle.ca_view.specs.Core.{body_rank, rank_in, rank_of, core_of}
 use Rattle.ca_view.specs.Linked.{place_in}
 use Rattle.ca_chip_defects.specs.code.ChipDefects.{if_placed, placed_before, placed_instances}
 use Rattle.ca_view.specs.Places.{AreRanks}

@@ -1,7 +1,7 @@
 -- The list of the defects of a chip.
 use Rattle.std.specs.Prelude.{ℕ, List, map, flat_map}
-use Rattle.ca_defect.specs.declared.defect.Defect.{Defect}
-use Rattle.ca_defect.specs.List.{defects_of}
+use Rattle.ca_cell.specs.declared.defect.Defect.{Defect}
+use Rattle.ca_cell.specs.List.{defects_of}
 use Rattle.ca_flat.specs.declared.chip_defect.ChipDefect.{ChipDefect}
 use Rattle.ca_flat.specs.Chip.{Chip, cell_at}
 

@@ -9,7 +9,7 @@ ghost use Rattle.ca_chip_defects.specs.ChipDefects.{chip_defects};
 ghost use Rattle.ca_chip_defects.specs.code.ChipDefects.{if_placed};
 
 use ca_base::{List, NoMemory};
-use ca_defect::defects;
+use ca_cell::defects;
 use ca_flat::ChipDefect;
 use ca_view::View;
 use std::alloc::Global;

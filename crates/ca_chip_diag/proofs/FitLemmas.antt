@@ -4,7 +4,7 @@ use Rattle.std.specs.List.{All}
 use Rattle.std.proofs.lemmas.List.{length-map}
 use Rattle.ca_net.specs.declared.trit.Trit.{Trit}
 use Rattle.ca_linked.specs.Linked.{LinkedChip, inputs_of, outputs_of}
-use Rattle.ca_core.specs.Core.{core_net}
+use Rattle.ca_view.specs.Core.{core_net}
 use Rattle.ca_outputs.specs.Outputs.{output_names}
 use Rattle.ca_outputs.specs.Laws.{NamesAreAsManyAsOutputs}
 use Rattle.ca_log.specs.declared.record.LogRecord.{LogRecord}

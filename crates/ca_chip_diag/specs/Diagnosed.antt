@@ -3,7 +3,7 @@ use Rattle.std.specs.Prelude.{◌^◌, ◌≡◌, ◌<◌, Bool, List, length}
 use Rattle.std.specs.List.{All}
 use Rattle.ca_flat.specs.Pair.{bit_count}
 use Rattle.ca_linked.specs.Linked.{LinkedChip}
-use Rattle.ca_core.specs.Core.{core_of}
+use Rattle.ca_view.specs.Core.{core_of}
 use Rattle.ca_log.specs.declared.record.LogRecord.{LogRecord}
 use Rattle.ca_diag.specs.Candidates.{AreLoggedWithin}
 

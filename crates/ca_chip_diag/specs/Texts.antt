@@ -1,11 +1,11 @@
 -- The texts that report a diagnosis: a header with a record for each candidate, and the line of the counts.
 use Rattle.std.specs.Prelude.{ℕ, List, [], ◌∷◌, ◌++◌, map, codes, decimal, None, Some, slice_get}
 use Rattle.ca_csv.specs.Records.{written}
-use Rattle.ca_defect.specs.Name.{name_of}
+use Rattle.ca_cell.specs.Name.{name_of}
 use Rattle.ca_flat.specs.declared.chip_defect.ChipDefect.{ChipDefect}
 use Rattle.ca_flat.specs.Chip.{cell_at}
 use Rattle.ca_linked.specs.Linked.{LinkedChip}
-use Rattle.ca_core.specs.Core.{core_of}
+use Rattle.ca_view.specs.Core.{core_of}
 use Rattle.ca_chip_report.specs.ChipReport.{instance_name, cell_name}
 use Rattle.ca_chip_report.specs.Summary.{with_count}
 use Rattle.ca_diag.specs.declared.candidate.Candidate.{Candidate}

@@ -4,7 +4,7 @@ use Rattle.std.specs.List.{All}
 use Rattle.std.proofs.lemmas.List.{length-map}
 use Rattle.ca_net.specs.declared.trit.Trit.{Trit}
 use Rattle.ca_linked.specs.Linked.{LinkedChip, inputs_of, outputs_of}
-use Rattle.ca_core.specs.Core.{core_of, core_net}
+use Rattle.ca_view.specs.Core.{core_of, core_net}
 use Rattle.ca_flat.specs.Pair.{bit_count}
 use Rattle.ca_chip_stil.specs.ChipStil.{AreOfChip}
 

@@ -4,7 +4,7 @@ use Rattle.std.specs.List.{All}
 use Rattle.std.proofs.lemmas.List.Elements.{All-weaker}
 use Rattle.ca_flat.specs.declared.chip_defect.ChipDefect.{ChipDefect}
 use Rattle.ca_linked.specs.Linked.{LinkedChip, IsWired}
-use Rattle.ca_core.specs.Core.{core_of}
+use Rattle.ca_view.specs.Core.{core_of}
 use Rattle.ca_outputs.specs.Outputs.{output_names}
 use Rattle.ca_view.specs.Linked.{IsPlacedDefect, place_in}
 use Rattle.ca_view.specs.View.{Viewed, IsViewOf}

@@ -14,7 +14,7 @@ use Rattle.ca_linked.specs.declared.parts.Body.{Body}
 use Rattle.ca_linked.specs.declared.parts.Body.TheVariants.{Gate, Scan}
 use Rattle.ca_linked.specs.declared.parts.Part.{Part}
 use Rattle.ca_linked.specs.Linked.{LinkedChip, outputs_of, IsGate, IsLibrary}
-use Rattle.ca_core.specs.Core.{core_net, core_of, body_rank, rank_in, rank_of}
+use Rattle.ca_view.specs.Core.{core_net, core_of, body_rank, rank_in, rank_of}
 use Rattle.ca_credit.specs.declared.verdict.Verdict.{Verdict}
 use Rattle.ca_credit.specs.declared.verdict.Verdict.TheVariants.{Credited, Unexposable, Untestable, Aborted}
 use Rattle.ca_credit.specs.Defects.{Task, IsOfOneChip}

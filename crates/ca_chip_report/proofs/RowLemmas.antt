@@ -15,8 +15,8 @@ use Rattle.ca_linked.specs.declared.parts.Body.TheVariants.{Gate, Scan}
 use Rattle.ca_linked.specs.declared.parts.Part.{Part}
 use Rattle.ca_linked.specs.Linked.{LinkedChip, outputs_of, IsGate}
 use Rattle.ca_linked.specs.Instances.{IsCellOf}
-use Rattle.ca_core.specs.Core.{core_instance, core_of}
-use Rattle.ca_core.proofs.CorePartLemmas.{core_at}
+use Rattle.ca_view.specs.Core.{core_instance, core_of}
+use Rattle.ca_view.proofs.CorePartLemmas.{core_at}
 use Rattle.ca_credit.specs.declared.verdict.Verdict.{Verdict}
 use Rattle.ca_credit.specs.declared.verdict.Verdict.TheVariants.{Credited, Unexposable, Untestable, Aborted}
 use Rattle.ca_grade.specs.declared.grade.Grade.{Grade}

@@ -2,7 +2,7 @@
 use Rattle.std.specs.Prelude.{ℕ, ◌+◌, ◌≡◌, ◌<◌, Bool, List}
 use Rattle.std.specs.List.{All}
 use Rattle.ca_linked.specs.Linked.{LinkedChip, IsLibrary}
-use Rattle.ca_core.specs.Core.{core_of, rank_of}
+use Rattle.ca_view.specs.Core.{core_of, rank_of}
 use Rattle.ca_credit.specs.declared.verdict.Verdict.{Verdict}
 use Rattle.ca_credit.specs.Defects.{Task, IsOfOneChip}
 use Rattle.ca_credit.specs.Good.{IsGood}

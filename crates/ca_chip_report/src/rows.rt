@@ -1,9 +1,9 @@
 //! The defects of a linked chip, as rows of a report.
 
 ghost use Rattle.std.specs.Prelude.{◌≡◌, ◌<◌, length, slice_get, Some, IfOk};
-ghost use Rattle.ca_defect.specs.Name.{name_of};
+ghost use Rattle.ca_cell.specs.Name.{name_of};
 ghost use Rattle.ca_flat.specs.Chip.{cell_at};
-ghost use Rattle.ca_core.specs.Core.{core_of};
+ghost use Rattle.ca_view.specs.Core.{core_of};
 ghost use Rattle.ca_chip_report.specs.ChipReport.{reported_of, instance_name, cell_name, IsGateDefect};
 ghost use Rattle.ca_chip_report.specs.Grades.{reported_grade};
 ghost use Rattle.ca_chip_report.specs.Found.{found_of};
@@ -44,7 +44,7 @@ pub fn name_of(alloc: Global, chip: &Chip, defect: ChipDefect) -> Result<Text, N
         name_of (cell_at (core_of chip.now) defect.instance) defect.defect ≡ name) }
 {
     let cell = chip.cell_of(InstanceId(defect.instance));
-    ca_defect::name(alloc, cell, defect.defect)
+    ca_cell::name(alloc, cell, defect.defect)
 }
 
 // The verdict in a report.

@@ -17,7 +17,7 @@ use crate::tries::Tries;
 use crate::wants::Wants;
 use crate::ways::{Asked, Ways, best_output, showing_output};
 use ca_base::NoMemory;
-use ca_defect::Rows;
+use ca_cell::Rows;
 use ca_flat::ChipDefect;
 use ca_guide::{Attempt, Choice, Guide, NetWaves, Proposal};
 use ca_view::View;

@@ -1,7 +1,7 @@
 //! What the searches before this one came to, at the same instance.
 
 use ca_base::NoMemory;
-use ca_defect::Rows;
+use ca_cell::Rows;
 use ca_guide::Proposal;
 use std::alloc::Global;
 

@@ -7,7 +7,7 @@ use crate::costs::NEVER;
 use crate::cube::Cube;
 use crate::points::Points;
 use ca_base::NoMemory;
-use ca_defect::{Row, Rows};
+use ca_cell::{Row, Rows};
 use std::alloc::Global;
 
 // The most rows of a cell.

@@ -9,8 +9,8 @@ use Rattle.ca_net.specs.declared.node.NodeKind.{NodeKind}
 use Rattle.ca_net.specs.declared.node.NodeKind.TheVariants as node
 use Rattle.ca_net.specs.Circuit.{Circuit, IsWellFormed}
 use Rattle.ca_cell.specs.Rules.{KeepsRules}
-use Rattle.ca_defect.specs.declared.defect.Defect.TheVariants.{Short}
-use Rattle.ca_defect.specs.Defect as defects
+use Rattle.ca_cell.specs.declared.defect.Defect.TheVariants.{Short}
+use Rattle.ca_cell.specs.Defect as defects
 use Rattle.ca_linked.specs.declared.parts.Body.{Body}
 use Rattle.ca_linked.specs.Linked.{LinkedChip, IsWired, gate_inputs}
 use Rattle.ca_linked.specs.Instances.{pin_nets}
@@ -18,8 +18,8 @@ use Rattle.ca_flat.specs.declared.chip_defect.ChipDefect.{ChipDefect}
 use Rattle.ca_flat.specs.Chip.{Drives, inputs_at, outputs_at, net_of, net_kind, count_of}
 use Rattle.ca_flat.specs.Flat.{flat, place}
 use Rattle.ca_flat.specs.Chip as chips
-use Rattle.ca_core.specs.Core.{core_of, rank_of}
-use Rattle.ca_core.proofs.CoreIsChip.{core_is}
+use Rattle.ca_view.specs.Core.{core_of, rank_of}
+use Rattle.ca_view.proofs.CoreIsChip.{core_is}
 use Rattle.ca_flatten.specs.Few.{IsFew}
 use Rattle.ca_view.proofs.CoreFacts.{inputs_are}
 use Rattle.ca_view.proofs.PartFacts.{gate_at, some_at}

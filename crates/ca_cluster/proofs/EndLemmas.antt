@@ -27,10 +27,10 @@ use Rattle.ca_flat.specs.Flat.{outer_count}
 use Rattle.ca_flat.proofs.Places.{place_rail, place_pin, place_inner}
 use Rattle.ca_flat.proofs.Spots.{shape}
 use Rattle.ca_flat.specs.Chip as flat
-use Rattle.ca_core.specs.Core.{core_net, core_of, stored_nets, trit_of, constant_on, in_net_order, core_constants, rank_of}
-use Rattle.ca_core.proofs.CoreLemmas.{IsOutside, core_same}
-use Rattle.ca_core.proofs.CorePartLemmas.{first_stored}
-use Rattle.ca_core.proofs.CoreIsChip.{core_is, data_within, data_outside}
+use Rattle.ca_view.specs.Core.{core_net, core_of, stored_nets, trit_of, constant_on, in_net_order, core_constants, rank_of}
+use Rattle.ca_view.proofs.CoreLemmas.{IsOutside, core_same}
+use Rattle.ca_view.proofs.CorePartLemmas.{first_stored}
+use Rattle.ca_view.proofs.CoreIsChip.{core_is, data_within, data_outside}
 use Rattle.ca_view.proofs.CoreFacts.{inputs_are}
 use Rattle.ca_view.proofs.InputLemmas.{input_at}
 use Rattle.ca_view.proofs.PartFacts.{GateAt, gate_at, some_at, at_some, pin_read}

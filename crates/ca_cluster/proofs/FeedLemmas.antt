@@ -16,10 +16,10 @@ use Rattle.ca_linked.specs.Linked.{gate_inputs, gate_outputs, inverted_nets}
 use Rattle.ca_linked.proofs.PartLemmas.{contains_has, of_all, of_list}
 use Rattle.ca_flat.specs.Chip.{Instance, inputs_at, outputs_at, net_of, output_net, count_of}
 use Rattle.ca_flat.specs.Chip as flat
-use Rattle.ca_core.specs.Core.{core_net, core_of, stored_nets}
-use Rattle.ca_core.proofs.CoreLemmas.{IsOutside, core_same}
-use Rattle.ca_core.proofs.CorePartLemmas.{core_at, part_at, stored_count, stored_pin, stored_is_data, read_is_data}
-use Rattle.ca_core.proofs.CoreIsChip.{body_of, data_outside}
+use Rattle.ca_view.specs.Core.{core_net, core_of, stored_nets}
+use Rattle.ca_view.proofs.CoreLemmas.{IsOutside, core_same}
+use Rattle.ca_view.proofs.CorePartLemmas.{core_at, part_at, stored_count, stored_pin, stored_is_data, read_is_data}
+use Rattle.ca_view.proofs.CoreIsChip.{body_of, data_outside}
 use Rattle.ca_view.proofs.CoreFacts.{core_count, inputs_are, input_net_is}
 use Rattle.ca_view.proofs.PartFacts.{some_at}
 use Rattle.ca_merged.specs.Merged.{FeedsInstance}

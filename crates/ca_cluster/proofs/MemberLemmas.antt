@@ -14,7 +14,7 @@ use Rattle.ca_linked.specs.Paths.{mark_at}
 use Rattle.ca_linked.proofs.OrderLemmas.{place_of}
 use Rattle.ca_flat.specs.Chip.{inputs_at, count_of}
 use Rattle.ca_flat.specs.Chip as flat
-use Rattle.ca_core.specs.Core.{core_of}
+use Rattle.ca_view.specs.Core.{core_of}
 use Rattle.ca_view.proofs.CoreFacts.{core_count, inputs_are}
 use Rattle.ca_view.proofs.PartFacts.{gate_at, some_at}
 use Rattle.ca_merged.specs.Merged.{FeedsInstance, IsInstanceChain}

@@ -8,7 +8,7 @@ use Rattle.std.proofs.lemmas.List.Quantifiers.{all_pairs_push}
 use Rattle.ca_cluster.specs.declared.bridge.Bridge.{Bridge}
 use Rattle.ca_linked.specs.Linked.{LinkedChip, IsLibrary}
 use Rattle.ca_flat.specs.Chip.{circuit_at, inputs_at, count_of}
-use Rattle.ca_core.specs.Core.{core_of}
+use Rattle.ca_view.specs.Core.{core_of}
 use Rattle.ca_merged.specs.Bridge.{IsBridge}
 use Rattle.ca_cluster.specs.Bridges.{IsBefore, IsKnown, AreBridgesOf}
 use Rattle.ca_cluster.specs.code.Pairs.{IsPin, IsPairOf, IsUpTo, AreFirst}

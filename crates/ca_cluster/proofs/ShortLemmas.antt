@@ -21,8 +21,8 @@ use Rattle.ca_linked.specs.Instances.{pin_nets}
 use Rattle.ca_flat.specs.Chip.{circuit_at, inputs_at, outputs_at, net_of, count_of}
 use Rattle.ca_flat.specs.Flat.{outer_count, inner_count}
 use Rattle.ca_flat.specs.Chip as flat
-use Rattle.ca_core.specs.Core.{core_net, core_of, rank_of}
-use Rattle.ca_core.proofs.CoreIsChip.{core_is}
+use Rattle.ca_view.specs.Core.{core_net, core_of, rank_of}
+use Rattle.ca_view.proofs.CoreIsChip.{core_is}
 use Rattle.ca_view.proofs.PartFacts.{some_at, pin_read}
 use Rattle.ca_merged.specs.Blocks.{block_start}
 use Rattle.ca_merged.specs.Cluster.{is_driven, cluster_cell, cluster_outputs, input_count, output_count, net_seat, seat}

@@ -1,11 +1,11 @@
 -- The bridges of a library instance of a linked chip, their order and their names.
 use Rattle.std.specs.Prelude.{ℕ, ◌≡◌, ◌<◌, ◌⊎◌, ◌↔◌, List}
 use Rattle.std.specs.List.{Contains, AllPairs}
-use Rattle.ca_defect.specs.declared.defect.Defect.TheVariants.{Short}
-use Rattle.ca_defect.specs.Name.{name_of}
+use Rattle.ca_cell.specs.declared.defect.Defect.TheVariants.{Short}
+use Rattle.ca_cell.specs.Name.{name_of}
 use Rattle.ca_flat.specs.Chip.{cell_at}
 use Rattle.ca_linked.specs.Linked.{LinkedChip, IsLibrary}
-use Rattle.ca_core.specs.Core.{core_of}
+use Rattle.ca_view.specs.Core.{core_of}
 use Rattle.ca_merged.specs.Bridge.{IsBridge}
 use Rattle.ca_cluster.specs.declared.bridge.Bridge.{Bridge}
 

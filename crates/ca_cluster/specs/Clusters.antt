@@ -11,7 +11,7 @@ use Rattle.ca_flat.specs.Flat.{place}
 use Rattle.ca_flat.specs.Pair.{NetEndsAt, DetectsAt}
 use Rattle.ca_flat.specs.Waves.{IsFlatChip}
 use Rattle.ca_linked.specs.Linked.{LinkedChip, IsLibrary}
-use Rattle.ca_core.specs.Core.{core_of}
+use Rattle.ca_view.specs.Core.{core_of}
 use Rattle.ca_merged.specs.Cluster.{cluster_cell}
 use Rattle.ca_merged.specs.Bridge.{IsInputPin, BridgeEndsAt, BridgeDetectsAt, short_of}
 use Rattle.ca_merged.specs.Members.{AreClusterMembers}

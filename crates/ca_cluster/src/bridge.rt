@@ -3,7 +3,7 @@
 ghost use Rattle.std.specs.Prelude.{◌≡◌, ◌+◌, ◌++◌, ◌<◌, ◌^◌, ◌⊎◌, ◌↔◌, length, IsTrue, IfOk, OnOk};
 ghost use Rattle.ca_lex.specs.Words.{upper_case};
 ghost use Rattle.ca_cell.specs.Raw.{circuit_of};
-ghost use Rattle.ca_defect.specs.Name.{node_name};
+ghost use Rattle.ca_cell.specs.Name.{node_name};
 ghost use Rattle.ca_linked.specs.Linked.{IsLibrary};
 ghost use Rattle.ca_cluster.specs.Bridges.{IsKnown, AreBridgesOf, bridge_name};
 ghost use Rattle.ca_cluster.specs.code.Pairs.{IsPin, AreFirst};

@@ -3,7 +3,7 @@
 ghost use Rattle.std.specs.Prelude.{ℕ, ◌≡◌, ◌<◌, ◌↔◌, length, IsTrue, Some};
 ghost use Rattle.ca_flat.specs.Chip.{circuit_at};
 ghost use Rattle.ca_linked.specs.Linked.{net_count, IsLibrary};
-ghost use Rattle.ca_core.specs.Core.{core_of};
+ghost use Rattle.ca_view.specs.Core.{core_of};
 ghost use Rattle.ca_cluster.specs.Bridges.{IsKnown};
 ghost use Rattle.ca_cluster.specs.Clusters.{IsPortEnd, IsAtPort, IsOneNode};
 ghost use Rattle.ca_cluster.specs.code.Ends.{IsOnOutput, MakesMember};

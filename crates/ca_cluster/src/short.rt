@@ -1,14 +1,14 @@
 //! The short of a merged chip that is a bridge of the chip.
 
 ghost use Rattle.std.specs.Prelude.{◌≡◌, ◌+◌, ◌<◌, ◌≤◌, eqb, length, min, max};
-ghost use Rattle.ca_defect.specs.declared.defect.Defect.TheVariants.{Short};
+ghost use Rattle.ca_cell.specs.declared.defect.Defect.TheVariants.{Short};
 ghost use Rattle.std.specs.List.{Contains, position_or_len};
 ghost use Rattle.ca_cell.specs.declared.rule.TheConstants.{MOST_NODES};
 ghost use Rattle.ca_cell.specs.Rules.{KeepsRules};
 ghost use Rattle.ca_flat.specs.Chip.{circuit_at};
 ghost use Rattle.ca_flat.specs.Flat.{inner_count};
 ghost use Rattle.ca_linked.specs.Linked.{IsLibrary};
-ghost use Rattle.ca_core.specs.Core.{core_of};
+ghost use Rattle.ca_view.specs.Core.{core_of};
 ghost use Rattle.ca_merged.specs.Blocks.{block_start};
 ghost use Rattle.ca_merged.specs.Cluster.{seat, cluster_cell};
 ghost use Rattle.ca_merged.specs.Bridge.{IsInCluster, short_of};
@@ -19,8 +19,7 @@ ghost use Rattle.ca_cluster.specs.Clusters.{AreMembersOf, IsInside};
 ghost use Rattle.ca_cluster.specs.code.Hands.{IsInHand};
 
 use crate::bridge::Bridge;
-use ca_cell::MOST_NODES;
-use ca_defect::Defect;
+use ca_cell::{Defect, MOST_NODES};
 use ca_flat::ChipDefect;
 use ca_flatten::cell_at;
 use ca_linked::{Body, Chip, InstanceId, InstanceList, NetList};

@@ -2,7 +2,7 @@
 use Rattle.std.proofs.Common.{◌≡◌, ◌≢◌, true, false, refl}
 use Rattle.ca_net.specs.declared.trit.Trit.{Trit}
 use Rattle.ca_net.specs.declared.trit.Trit.TheVariants.{Zero, One, X}
-use Rattle.ca_defect.specs.Exposes.{opposite_of}
+use Rattle.ca_cell.specs.Exposes.{opposite_of}
 use Rattle.ca_confined.specs.code.Ends.{are_opposite}
 
 pub record IsOpposite (a b : Trit) : Type 0 where

@@ -2,7 +2,7 @@
 ghost use Rattle.std.specs.Prelude.{◌≡◌, Some, IfErr, IfOk, OnOk};
 ghost use Rattle.ca_store.specs.Store.{Nothing};
 ghost use Rattle.ca_scan.specs.ChainFault.{AreAllChains};
-ghost use Rattle.ca_core.specs.Core.{core_of};
+ghost use Rattle.ca_view.specs.Core.{core_of};
 ghost use Rattle.ca_outputs.specs.Outputs.{output_names};
 ghost use Rattle.ca_chip_stil.specs.ChipStil.{AreOfChip};
 ghost use Rattle.ca_expected.specs.Expected.{AreExpected};

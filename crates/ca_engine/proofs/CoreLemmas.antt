@@ -3,7 +3,7 @@ use Rattle.std.proofs.Common.{◌≡◌, ℕ, List, Option, None, Some, sym, ◌
 use Rattle.ca_flat.specs.declared.chip_defect.ChipDefect.{ChipDefect}
 use Rattle.ca_flat.specs.Chip.{Chip}
 use Rattle.ca_linked.specs.Linked.{IsWired}
-use Rattle.ca_core.specs.Core.{core_of}
+use Rattle.ca_view.specs.Core.{core_of}
 use Rattle.ca_flatten.specs.Few.{IsFew}
 use Rattle.ca_flatten.specs.Laws.{FlatIsWellFormed}
 use Rattle.ca_judge.specs.ChipJudge.{CanBeJudged}

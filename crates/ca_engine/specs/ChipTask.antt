@@ -4,7 +4,7 @@ use Rattle.ca_engine.specs.ChipDefects.{chip_defects}
 use Rattle.ca_credit.specs.Defects.{Task}
 use Rattle.ca_linked.specs.Linked.{LinkedChip}
 use Rattle.ca_linked.specs.Instances.{gates_of}
-use Rattle.ca_core.specs.Core.{core_of}
+use Rattle.ca_view.specs.Core.{core_of}
 
 -- to search, with at most `budget` branches for each, for pairs that show the defects of the chip's library
 -- instances: by instance in netlist order, and then in the order of its cell's list

@@ -2,7 +2,7 @@
 
 ghost use Rattle.std.specs.Prelude.{◌≡◌};
 
-use ca_defect::Rows;
+use ca_cell::Rows;
 use ca_flat::ChipDefect;
 use ca_guide::{Guide, LowestUnset, NetWaves, Step};
 use ca_judge::{Aimed, Attempts};

@@ -9,9 +9,9 @@ ghost use Rattle.ca_engine.specs.ChipTask.{task_of};
 ghost use Rattle.ca_engine.specs.code.Untestable.{AreMarked};
 
 use ca_base::NoMemory;
+use ca_cell::Rows;
 use ca_chip_defects::{ChipDefects, chip_defects};
 use ca_credit::{Verdict, Verdicts};
-use ca_defect::Rows;
 use ca_every_vector::EveryVector;
 use ca_flat::ExposingRows;
 use ca_flatten::{flat_is_well_formed, judge_size};

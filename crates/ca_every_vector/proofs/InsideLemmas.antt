@@ -8,7 +8,7 @@ use Rattle.ca_net.specs.Trit.{IsBelow}
 use Rattle.ca_net.specs.State.{value_at, IsStateBelow}
 use Rattle.ca_net.proofs.StateLemmas.{IsBelow-trans}
 use Rattle.ca_parts.proofs.TritLemmas.{kept}
-use Rattle.ca_defect.specs.Exposes.{opposite_of}
+use Rattle.ca_cell.specs.Exposes.{opposite_of}
 use Rattle.ca_flat.specs.declared.chip_defect.ChipDefect.{ChipDefect}
 use Rattle.ca_flat.specs.Chip.{Chip, cell_at, inputs_at, outputs_at, net_of, output_net, count_of, IsChip}
 use Rattle.ca_flat.specs.Waves.{FlatWaves, IsFlatChip}
@@ -21,7 +21,7 @@ use Rattle.ca_flat.proofs.PairLemmas.{last_rises, value_at-values_from}
 use Rattle.ca_flips.specs.Known.{AreKnownLasts}
 use Rattle.ca_flips.proofs.KnownLemmas.{known_lasts_are_good_lem}
 use Rattle.ca_sweep.proofs.UndetectedLemmas.{unseen_is_undetected}
-use Rattle.ca_defect.proofs.NumberLemmas.{number_of}
+use Rattle.ca_cell.proofs.NumberLemmas.{number_of}
 use Rattle.std.proofs.lemmas.Nat.Bits.{bit_at_ones}
 use Rattle.ca_flips.specs.Static.{EndsByLast}
 use Rattle.ca_flips.specs.Flips.{AreSwept, KeepsGood, IsEvaluated, vector_at, lasts_of}

@@ -19,7 +19,7 @@ use Rattle.ca_planes.specs.Plane.{has_lane}
 use Rattle.ca_planes.specs.Trits.{HasNodes, state_in, trit_for, trit_in, value_in}
 use Rattle.ca_planes.proofs.BitLemmas.{in_all}
 use Rattle.ca_planes.proofs.ValueLemmas.{length-values_in}
-use Rattle.ca_defect.specs.Row.{digit_value}
+use Rattle.ca_cell.specs.Row.{digit_value}
 use Rattle.ca_flat.specs.Chip.{Chip, IsChip, cell_at, inputs_at, outputs_at, net_of, output_net, count_of}
 use Rattle.ca_flips.specs.Static.{EndsByLast}
 use Rattle.ca_flips.specs.Flips.{vector_at}

@@ -7,7 +7,7 @@ use Rattle.std.proofs.lemmas.List.Elements.{Contains-get_or}
 use Rattle.ca_net.specs.declared.trit.Trit.{Trit}
 use Rattle.ca_net.specs.declared.trit.Trit.TheVariants.{X}
 use Rattle.ca_net.specs.State.{value_at}
-use Rattle.ca_defect.specs.Exposes.{opposite_of}
+use Rattle.ca_cell.specs.Exposes.{opposite_of}
 use Rattle.ca_planes.specs.declared.block.Block.{Block}
 use Rattle.ca_planes.specs.declared.trits.Trits.{Trits}
 use Rattle.ca_planes.specs.Plane.{has_lane}

@@ -8,9 +8,9 @@ use Rattle.ca_net.specs.Circuit.{Circuit}
 use Rattle.ca_net.specs.State.{value_at, IsStateBelow}
 use Rattle.ca_net.specs.PairRun.{EndsAt}
 use Rattle.ca_net.proofs.StateLemmas.{IsBelow-trans}
-use Rattle.ca_defect.specs.Row.{vector_of}
-use Rattle.ca_defect.specs.Exposes.{opposite_of, pin_vector, IsDefiniteVector, Exposes}
-use Rattle.ca_defect.proofs.NumberLemmas.{number_of, number_within, vector_again}
+use Rattle.ca_cell.specs.Row.{vector_of}
+use Rattle.ca_cell.specs.Exposes.{opposite_of, pin_vector, IsDefiniteVector, Exposes}
+use Rattle.ca_cell.proofs.NumberLemmas.{number_of, number_within, vector_again}
 use Rattle.ca_flat.specs.declared.chip_defect.ChipDefect.{ChipDefect}
 use Rattle.ca_flat.specs.Chip.{Chip, cell_at, inputs_at, outputs_at, net_of, output_net, count_of}
 use Rattle.ca_flat.specs.Pair.{DetectsAt}

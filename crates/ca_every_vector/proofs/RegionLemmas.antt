@@ -12,8 +12,8 @@ use Rattle.ca_net.specs.declared.scale.TheConstants.{OUTPUT_NET}
 use Rattle.ca_net.specs.declared.node.NodeKind.TheVariants.{Input, Storage}
 use Rattle.ca_net.specs.State.{value_at}
 use Rattle.ca_flat.specs.Chip.{Chip, IsChip, outputs_at, output_net, count_of, net_kind}
-use Rattle.ca_defect.specs.Row.{vector_of}
-use Rattle.ca_defect.proofs.NumberLemmas.{number_of, number_within, vector_again}
+use Rattle.ca_cell.specs.Row.{vector_of}
+use Rattle.ca_cell.proofs.NumberLemmas.{number_of, number_within, vector_again}
 use Rattle.ca_flat.specs.Codes.{bit_trit}
 use Rattle.ca_flat.specs.Detection.{trits_of}
 use Rattle.ca_flat.specs.Pair.{bit_count, input_value, net_value}

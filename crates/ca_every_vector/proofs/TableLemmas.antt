@@ -10,8 +10,8 @@ use Rattle.std.proofs.lemmas.List.{get_or-map, get_or-take, get_or-drop, length-
 use Rattle.ca_net.specs.declared.trit.Trit.{Trit}
 use Rattle.ca_net.specs.declared.trit.Trit.TheVariants.{X}
 use Rattle.ca_net.specs.State.{value_at, IsStateBelow}
-use Rattle.ca_defect.specs.Row.{vector_of}
-use Rattle.ca_defect.proofs.NumberLemmas.{number_of, number_within, vector_again}
+use Rattle.ca_cell.specs.Row.{vector_of}
+use Rattle.ca_cell.proofs.NumberLemmas.{number_of, number_within, vector_again}
 use Rattle.ca_flat.specs.Chip.{Chip}
 use Rattle.ca_flat.specs.Codes.{bit_trit}
 use Rattle.ca_flat.specs.Detection.{trits_of}

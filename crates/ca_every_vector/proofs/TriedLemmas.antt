@@ -8,7 +8,7 @@ use Rattle.ca_net.specs.declared.trit.Trit.{Trit}
 use Rattle.ca_net.specs.declared.trit.Trit.TheVariants.{X}
 use Rattle.ca_net.specs.State.{value_at}
 use Rattle.ca_net.specs.Trit.{IsBelow}
-use Rattle.ca_defect.specs.Row.{digit_value, vector_of}
+use Rattle.ca_cell.specs.Row.{digit_value, vector_of}
 use Rattle.ca_flat.specs.Chip.{Chip, inputs_at, net_of}
 use Rattle.ca_flat.specs.Detection.{trits_of}
 use Rattle.ca_flips.specs.Flips.{vector_at}

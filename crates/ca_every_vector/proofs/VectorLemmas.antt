@@ -7,7 +7,7 @@ use Rattle.ca_net.specs.declared.trit.Trit.{Trit}
 use Rattle.std.specs.Prelude.{if◌then◌else◌, ◌==◌}
 use Rattle.ca_net.specs.declared.trit.Trit.TheVariants.{Zero, One, X}
 use Rattle.ca_net.specs.State.{value_at}
-use Rattle.ca_defect.specs.Row.{digit_value, vector_of}
+use Rattle.ca_cell.specs.Row.{digit_value, vector_of}
 use Rattle.ca_every_vector.specs.Vectors.{first_set, last_set}
 
 pub length-vector_of : (inputs number : ℕ) → length (vector_of inputs number) ≡ inputs

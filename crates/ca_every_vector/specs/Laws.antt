@@ -1,7 +1,7 @@
 -- The law of possible rows.
 use Rattle.std.specs.Prelude.{ℕ}
-use Rattle.ca_defect.specs.declared.row.Row.{Row}
-use Rattle.ca_defect.specs.Exposes.{IsExposingRow}
+use Rattle.ca_cell.specs.declared.row.Row.{Row}
+use Rattle.ca_cell.specs.Exposes.{IsExposingRow}
 use Rattle.ca_flat.specs.declared.chip_defect.ChipDefect.{ChipDefect}
 use Rattle.ca_flat.specs.Chip.{Chip, cell_at}
 use Rattle.ca_flat.specs.Waves.{IsFlatChip}

@@ -4,7 +4,7 @@ use Rattle.std.specs.Prelude.{ℕ, ◌≡◌, ◌<◌, ◌^◌, ◌⊎◌, Bool,
 use Rattle.std.specs.Int.{bit_at}
 use Rattle.ca_net.specs.declared.trit.Trit.{Trit}
 use Rattle.ca_net.specs.State.{value_at, IsStateBelow}
-use Rattle.ca_defect.specs.Row.{vector_of}
+use Rattle.ca_cell.specs.Row.{vector_of}
 use Rattle.ca_flat.specs.Chip.{Chip, inputs_at}
 use Rattle.ca_flat.specs.Pair.{bit_count}
 use Rattle.ca_flat.specs.Waves.{FlatWaves, wave_of}

@@ -20,7 +20,7 @@ use crate::sure::sure_instances;
 use crate::vectors::MOST_VECTOR_BITS;
 use crate::wanted::find_wanted;
 use ca_base::NoMemory;
-use ca_defect::Rows;
+use ca_cell::Rows;
 use ca_flat::ChipDefect;
 use ca_net::State;
 use ca_sim::Sim;

@@ -6,7 +6,7 @@ ghost use Rattle.ca_net.specs.State.{value_at};
 ghost use Rattle.ca_net.specs.Trit.{IsBelow};
 ghost use Rattle.ca_planes.specs.Plane.{has_lane};
 ghost use Rattle.ca_planes.specs.Trits.{HasNodes};
-ghost use Rattle.ca_defect.specs.Row.{vector_of};
+ghost use Rattle.ca_cell.specs.Row.{vector_of};
 ghost use Rattle.ca_flat.specs.Chip.{count_of, inputs_at, net_of};
 ghost use Rattle.ca_view.specs.Linked.{IsPlaced, place_in};
 ghost use Rattle.ca_view.specs.Places.{cell_number};

@@ -4,7 +4,7 @@ ghost use Rattle.std.specs.Prelude.{ℕ, ◌≡◌, ◌≢◌, ◌≤◌, ◌*�
 ghost use Rattle.ca_net.specs.declared.trit.Trit.TheVariants.{X};
 ghost use Rattle.ca_net.specs.State.{value_at};
 ghost use Rattle.ca_net.specs.Trit.{IsBelow};
-ghost use Rattle.ca_defect.specs.Row.{vector_of};
+ghost use Rattle.ca_cell.specs.Row.{vector_of};
 ghost use Rattle.ca_flat.specs.Chip.{cell_at, inputs_at, outputs_at, net_of};
 ghost use Rattle.ca_planes.specs.Plane.{has_lane};
 ghost use Rattle.ca_planes.specs.Trits.{HasNodes, trit_in};

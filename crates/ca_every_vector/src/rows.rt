@@ -2,7 +2,7 @@
 
 ghost use Rattle.std.specs.Prelude.{◌≡◌, ◌≢◌, ◌+◌, ◌<◌, ◌≤◌, ◌^◌, ◌⊎◌, ◌↔◌, length, IsTrue, None};
 ghost use Rattle.ca_net.specs.State.{value_at};
-ghost use Rattle.ca_defect.specs.Row.{vector_of};
+ghost use Rattle.ca_cell.specs.Row.{vector_of};
 ghost use Rattle.ca_flat.specs.Chip.{inputs_at};
 ghost use Rattle.ca_flat.specs.TwoFrame.{IsVectorOver};
 ghost use Rattle.ca_view.specs.Linked.{IsPlaced, place_in};

@@ -1,7 +1,7 @@
 //! Partial pairs of which one vector is set.
 
 ghost use Rattle.std.specs.Prelude.{◌≡◌, ◌+◌, ◌<◌, ◌≤◌, ◌/◌, ◌%◌, ◌^◌};
-ghost use Rattle.ca_defect.specs.Row.{digit_value};
+ghost use Rattle.ca_cell.specs.Row.{digit_value};
 ghost use Rattle.ca_every_vector.specs.declared.vectors.TheConstants.{MOST_VECTOR_BITS};
 
 use ca_net::Trit;

@@ -8,7 +8,7 @@ use Rattle.ca_net.specs.declared.trit.Trit.TheVariants.{Zero, One, X}
 use native.Mathlib.Decide.{ℕ_discrete}
 use Rattle.ca_net.specs.Circuit.{IsWellFormed}
 use Rattle.ca_net.specs.State.{value_at}
-use Rattle.ca_defect.specs.declared.row.Row.{Row}
+use Rattle.ca_cell.specs.declared.row.Row.{Row}
 use Rattle.ca_flat.specs.declared.chip_defect.ChipDefect.{ChipDefect}
 use Rattle.ca_flat.specs.Chip.{Chip, IsChip, IsDefectIn, count_of}
 use Rattle.ca_flat.specs.Flat.{flat}

@@ -12,7 +12,7 @@ ghost use Rattle.std.specs.List.{All};
 
 use crate::rows::is_some_row_allowed;
 use crate::standing::are_opposite;
-use ca_defect::Rows;
+use ca_cell::Rows;
 use ca_flat::ChipDefect;
 use ca_sim::NetWaves;
 use ca_view::View;

@@ -20,7 +20,7 @@ use crate::rows::is_some_row_allowed;
 use crate::standing::{is_settled, is_shown};
 use crate::support::supports;
 use crate::sweep::mark_onward;
-use ca_defect::Rows;
+use ca_cell::Rows;
 use ca_flat::ChipDefect;
 use ca_sim::NetWaves;
 use ca_view::View;

@@ -2,13 +2,12 @@
 
 ghost use Rattle.std.specs.Prelude.{◌≡◌, ◌<◌, ◌+◌, ◌/◌, ◌%◌, ◌^◌, ◌↔◌, length, IsTrue, IsFalse};
 ghost use Rattle.ca_cell.specs.declared.rule.TheConstants.{MOST_INPUTS};
-ghost use Rattle.ca_defect.specs.Row.{digit_value};
+ghost use Rattle.ca_cell.specs.Row.{digit_value};
 ghost use Rattle.ca_view.specs.Linked.{IsPlaced, place_in};
 ghost use Rattle.ca_examiner.specs.code.PinRows.{end_of, IsOver, IsAllowed, IsSomeAllowed, IsNoneAllowed};
 
 use crate::pins::input_pins;
-use ca_cell::MOST_INPUTS;
-use ca_defect::{Row, Rows};
+use ca_cell::{MOST_INPUTS, Row, Rows};
 use ca_net::{Trit, Wave, below};
 use ca_sim::NetWaves;
 use ca_view::View;

@@ -7,7 +7,7 @@ use Rattle.ca_net.specs.declared.trit.Trit.{Trit}
 use Rattle.ca_net.specs.declared.trit.Trit.TheVariants.{Zero, One, X}
 use Rattle.ca_net.specs.Trit.{IsBelow}
 use Rattle.ca_net.specs.State.{value_at}
-use Rattle.ca_defect.specs.Exposes.{IsDefiniteVector}
+use Rattle.ca_cell.specs.Exposes.{IsDefiniteVector}
 use Rattle.ca_flat.specs.Chip.{Chip, cell_at, inputs_at, net_of}
 use Rattle.ca_flat.specs.Pair.{values_from}
 use Rattle.ca_flat.specs.Waves.{wave_of}

@@ -8,7 +8,7 @@ use Rattle.ca_net.specs.Circuit.{IsWellFormed}
 use Rattle.ca_net.specs.State.{value_at}
 use Rattle.ca_net.proofs.StateLemmas.{IsBelow-trans}
 use Rattle.ca_parts.proofs.EndLaws.{ends_are_unique_lem}
-use Rattle.ca_defect.specs.Exposes.{opposite_of, pin_vector}
+use Rattle.ca_cell.specs.Exposes.{opposite_of, pin_vector}
 use Rattle.ca_flat.specs.Chip.{Chip, circuit_at, inputs_at, outputs_at, net_of, output_net, count_of, IsChip}
 use Rattle.ca_flat.specs.Flat.{flat}
 use Rattle.ca_flat.specs.Waves.{FlatWaves, wave_of, IsOverFirsts, IsOverLasts}

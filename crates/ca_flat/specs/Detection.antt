@@ -2,7 +2,7 @@
 use Rattle.std.specs.Prelude.{ℕ, ◌≡◌, Bool, List, length, map, All, IsSomeAnd, slice_get}
 use Rattle.ca_base.specs.First.{IsFirst}
 use Rattle.ca_net.specs.declared.trit.Trit.{Trit}
-use Rattle.ca_defect.specs.Exposes.{IsExposable}
+use Rattle.ca_cell.specs.Exposes.{IsExposable}
 use Rattle.ca_flat.specs.declared.chip_defect.ChipDefect.{ChipDefect}
 use Rattle.ca_flat.specs.Chip.{Chip, cell_at}
 use Rattle.ca_flat.specs.Pair.{bit_count, DetectsAt, IsShown}

@@ -3,7 +3,7 @@
 ghost use Rattle.std.specs.Prelude.{◌↔◌};
 
 use crate::chip_defect::ChipDefect;
-use ca_defect::Rows;
+use ca_cell::Rows;
 
 /// For each defect of a chip the rows that expose it in its cell.
 pub trait ExposingRows {

@@ -5,7 +5,7 @@ use Rattle.ca_net.specs.declared.node.NodeKind.TheVariants.{Input, Storage}
 use Rattle.ca_net.specs.declared.device.Device.{Device}
 use Rattle.ca_net.specs.declared.device.DeviceKind.{DeviceKind}
 use Rattle.ca_net.specs.declared.device.DeviceKind.TheVariants.{N, P, D}
-use Rattle.ca_defect.specs.declared.defect.Defect.TheVariants.{OpenDrain, OpenPin, Short}
+use Rattle.ca_cell.specs.declared.defect.Defect.TheVariants.{OpenDrain, OpenPin, Short}
 use Rattle.ca_flat.specs.Chip.{Chip}
 use Rattle.ca_flat.specs.Flat.{flat}
 use Rattle.ca_flat_tests.specs.Inverter.{inverter_chip, open_gate}

@@ -6,7 +6,7 @@ use Rattle.ca_net.specs.declared.device.DeviceKind.TheVariants.{N, P}
 use Rattle.ca_cell.specs.declared.raw.Role.TheVariants.{Input, Output, Power, Ground}
 use Rattle.ca_cell.specs.declared.raw.RawDevice.{RawDevice}
 use Rattle.ca_cell.specs.declared.raw.RawCell.{RawCell}
-use Rattle.ca_defect.specs.declared.defect.Defect.TheVariants.{OpenGate}
+use Rattle.ca_cell.specs.declared.defect.Defect.TheVariants.{OpenGate}
 use Rattle.ca_flat.specs.declared.chip_defect.ChipDefect.{ChipDefect}
 use Rattle.ca_flat.specs.Chip.{Chip, IsChip}
 use Rattle.ca_flat.specs.Waves.{IsFlatChip}

@@ -7,7 +7,7 @@ use Rattle.ca_net.specs.declared.device.Device.{Device}
 use Rattle.ca_net.specs.declared.device.DeviceKind.TheVariants.{N, P}
 use Rattle.ca_cell.specs.declared.raw.Role.TheVariants.{Input, Output, Power, Ground}
 use Rattle.ca_cell.specs.declared.raw.RawCell.{RawCell}
-use Rattle.ca_defect.specs.declared.defect.Defect.TheVariants.{Short}
+use Rattle.ca_cell.specs.declared.defect.Defect.TheVariants.{Short}
 use Rattle.ca_flat.specs.declared.chip_defect.ChipDefect.{ChipDefect}
 use Rattle.ca_flat.specs.Chip.{Chip}
 use Rattle.ca_flat.specs.Flat.{flat}

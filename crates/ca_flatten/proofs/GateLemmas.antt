@@ -15,9 +15,9 @@ use Rattle.ca_linked.specs.Linked.{IsWired}
 use Rattle.ca_linked.specs.Instances.{pin_nets, IsCellOf}
 use Rattle.ca_linked.proofs.OrderLemmas.{contained_at}
 use Rattle.ca_flat.specs.Chip.{Instance, instance_at, cell_at, inputs_at, outputs_at, net_of}
-use Rattle.ca_core.specs.Core.{core_net, core_instance, core_of}
-use Rattle.ca_core.proofs.CorePartLemmas.{core_at}
-use Rattle.ca_core.proofs.CoreIsChip.{body_of, data_within}
+use Rattle.ca_view.specs.Core.{core_net, core_instance, core_of}
+use Rattle.ca_view.proofs.CorePartLemmas.{core_at}
+use Rattle.ca_view.proofs.CoreIsChip.{body_of, data_within}
 
 -- a library instance, with its cell and its nets
 pub record GateAt (chip : LinkedChip) (u : ℕ) : Type 0 where

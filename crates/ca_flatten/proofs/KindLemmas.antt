@@ -15,8 +15,8 @@ use Rattle.ca_linked.specs.Linked.{LinkedChip, has, path_nets, output_nets, is_s
 use Rattle.ca_linked.specs.Linked.{IsWired}
 use Rattle.ca_linked.proofs.OrderLemmas.{contained_at}
 use Rattle.ca_linked.proofs.PartLemmas.{contains_has, has_contains}
-use Rattle.ca_core.specs.Core.{stored_nets, kind_of}
-use Rattle.ca_core.proofs.CorePartLemmas.{first_stored, stored_is_driven}
+use Rattle.ca_view.specs.Core.{stored_nets, kind_of}
+use Rattle.ca_view.proofs.CorePartLemmas.{first_stored, stored_is_driven}
 use Rattle.ca_flatten.proofs.GateLemmas.{some_at, at_some}
 
 module _ (chip : LinkedChip) (is : IsWired chip) (net : ℕ) where

@@ -16,19 +16,19 @@ use Rattle.ca_cell.specs.declared.raw.RawDevice.{RawDevice}
 use Rattle.ca_cell.specs.declared.raw.RawPin.{RawPin}
 use Rattle.ca_cell.specs.Raw.{node_of, device_of}
 use Rattle.ca_cell.specs.Devices.{IsDevice, IsDeviceBy}
-use Rattle.ca_defect.specs.declared.defect.Defect.{Defect}
-use Rattle.ca_defect.specs.declared.defect.Defect.TheVariants.{OpenDrain, OpenSource, OpenGate, OpenPin}
-use Rattle.ca_defect.specs.declared.defect.Defect.TheVariants.{Short}
-use Rattle.ca_defect.specs.Defect.{drain_on, source_on, gate_on, is_gated, device_with, changed_from, new_device}
+use Rattle.ca_cell.specs.declared.defect.Defect.{Defect}
+use Rattle.ca_cell.specs.declared.defect.Defect.TheVariants.{OpenDrain, OpenSource, OpenGate, OpenPin}
+use Rattle.ca_cell.specs.declared.defect.Defect.TheVariants.{Short}
+use Rattle.ca_cell.specs.Defect.{drain_on, source_on, gate_on, is_gated, device_with, changed_from, new_device}
 use Rattle.ca_flat.specs.declared.chip_defect.ChipDefect.{ChipDefect}
 use Rattle.ca_flat.specs.Chip.{Instance, cell_at, circuit_at, count_of}
 use Rattle.ca_flat.specs.Flat.{place, old_devices, defect_at, devices_of, devices_before, bridge_of, flat}
 use Rattle.ca_linked.specs.declared.parts.Body.{Body}
 use Rattle.ca_linked.specs.declared.parts.Body.TheVariants.{Gate, Scan}
 use Rattle.ca_linked.specs.Linked.{LinkedChip, IsWired, IsBody}
-use Rattle.ca_core.specs.Core.{core_instance, core_of, empty_cell}
-use Rattle.ca_core.proofs.CorePartLemmas.{core_at, part_at}
-use Rattle.ca_core.proofs.CoreIsChip.{body_of}
+use Rattle.ca_view.specs.Core.{core_instance, core_of, empty_cell}
+use Rattle.ca_view.proofs.CorePartLemmas.{core_at, part_at}
+use Rattle.ca_view.proofs.CoreIsChip.{body_of}
 
 abbrev node_id : ℕ → NodeId
 node_id n = record { 0 = n }

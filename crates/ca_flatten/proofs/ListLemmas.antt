@@ -8,15 +8,15 @@ use Rattle.ca_net.specs.declared.device.Device.{Device}
 use Rattle.ca_parts.specs.Part.{moved}
 use Rattle.ca_cell.specs.declared.raw.RawCell.{RawCell}
 use Rattle.ca_cell.specs.Raw.{circuit_of}
-use Rattle.ca_defect.specs.declared.defect.Defect.{Defect}
-use Rattle.ca_defect.proofs.CircuitWithLemmas.{length-changed_from}
+use Rattle.ca_cell.specs.declared.defect.Defect.{Defect}
+use Rattle.ca_cell.proofs.CircuitWithLemmas.{length-changed_from}
 use Rattle.ca_flat.specs.declared.chip_defect.ChipDefect.{ChipDefect}
 use Rattle.ca_flat.specs.Chip as flat
 use Rattle.ca_flat.specs.Chip.{cell_at, circuit_at}
 use Rattle.ca_flat.specs.Flat.{place, old_devices, defect_at, devices_of, devices_before}
 use Rattle.ca_linked.specs.Linked.{LinkedChip}
 use Rattle.ca_linked.proofs.EndLemmas.{take_more}
-use Rattle.ca_core.specs.Core.{core_kinds}
+use Rattle.ca_view.specs.Core.{core_kinds}
 use Rattle.ca_flatten.specs.code.Kept.{core_kind, first_devices}
 
 pub no_kinds : (chip : LinkedChip) (nodes : List NodeKind) → nodes ≡ nodes ++ core_kinds chip 0

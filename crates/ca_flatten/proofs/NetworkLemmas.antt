@@ -15,8 +15,8 @@ use Rattle.ca_flat.specs.Chip.{IsChipDefect}
 use Rattle.ca_flat.specs.Flat.{flat}
 use Rattle.ca_flat.proofs.Simulated.{flat_well_formed}
 use Rattle.ca_linked.specs.Linked.{LinkedChip, IsWired}
-use Rattle.ca_core.specs.Core.{core_of, rank_of}
-use Rattle.ca_core.proofs.CoreIsChip.{core_is}
+use Rattle.ca_view.specs.Core.{core_of, rank_of}
+use Rattle.ca_view.proofs.CoreIsChip.{core_is}
 use Rattle.ca_flatten.specs.Few.{IsFew}
 use Rattle.ca_flatten.proofs.LineLemmas.{flat_lines}
 

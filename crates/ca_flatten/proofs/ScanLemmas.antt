@@ -11,19 +11,19 @@ use Rattle.ca_linked.specs.declared.parts.Part.{Part}
 use Rattle.ca_linked.specs.declared.parts.Body.TheVariants.{Gate, Scan}
 use Rattle.ca_linked.specs.Linked.{LinkedChip, net_count, data_nets, IsGate, IsLibrary, IsWired}
 use Rattle.ca_linked.specs.Instances.{pin_nets}
-use Rattle.ca_defect.specs.declared.defect.Defect.{Defect}
-use Rattle.ca_defect.specs.declared.defect.Defect.TheVariants.{OpenDrain, OpenSource, OpenGate, OpenPin}
-use Rattle.ca_defect.specs.declared.defect.Defect.TheVariants.{Short}
-use Rattle.ca_defect.specs.List.{IsDefectOf}
+use Rattle.ca_cell.specs.declared.defect.Defect.{Defect}
+use Rattle.ca_cell.specs.declared.defect.Defect.TheVariants.{OpenDrain, OpenSource, OpenGate, OpenPin}
+use Rattle.ca_cell.specs.declared.defect.Defect.TheVariants.{Short}
+use Rattle.ca_cell.specs.List.{IsDefectOf}
 use Rattle.ca_flat.specs.declared.chip_defect.ChipDefect.{ChipDefect}
 use Rattle.ca_flat.specs.Chip.{Instance, instance_at, cell_at, circuit_at, net_of, IsChipDefect}
 use Rattle.ca_parts.specs.Part.{moved}
 use Rattle.ca_flat.specs.Flat.{new_nodes, old_devices, defect_at, circuit_in, place, outer_count, devices_of}
 use Rattle.ca_flat.proofs.Shapes.{length-with_defect}
 use Rattle.std.proofs.lemmas.Bool.{eqb-true}
-use Rattle.ca_core.specs.Core.{core_net, core_instance, core_of, empty_cell}
-use Rattle.ca_core.proofs.CorePartLemmas.{core_at, part_at}
-use Rattle.ca_core.proofs.CoreIsChip.{data_within}
+use Rattle.ca_view.specs.Core.{core_net, core_instance, core_of, empty_cell}
+use Rattle.ca_view.proofs.CorePartLemmas.{core_at, part_at}
+use Rattle.ca_view.proofs.CoreIsChip.{data_within}
 use Rattle.ca_flatten.specs.code.Kept.{IsInverting}
 use Rattle.ca_flatten.proofs.GateLemmas.{some_at, at_some}
 use Rattle.ca_flatten.proofs.SizeLemmas.{core_count}

@@ -16,17 +16,17 @@ use Rattle.ca_flat.specs.Chip.{inputs_at, outputs_at, circuit_at, count_of, IsCh
 use Rattle.ca_flat.specs.Flat.{inner_before, inner_count, place, circuit_in, old_devices, defect_at}
 use Rattle.ca_flat.specs.Flat.{devices_of, devices_before, bridge_of, new_nodes, defect_of}
 use Rattle.ca_parts.specs.Part.{moved}
-use Rattle.ca_defect.specs.declared.defect.Defect.{Defect}
-use Rattle.ca_defect.specs.declared.defect.Defect.TheVariants.{OpenDrain, OpenSource, OpenGate, OpenPin}
-use Rattle.ca_defect.specs.declared.defect.Defect.TheVariants.{Short}
-use Rattle.ca_defect.specs.Defect.{new_device}
-use Rattle.ca_defect.proofs.CircuitWithLemmas.{length-changed_from}
+use Rattle.ca_cell.specs.declared.defect.Defect.{Defect}
+use Rattle.ca_cell.specs.declared.defect.Defect.TheVariants.{OpenDrain, OpenSource, OpenGate, OpenPin}
+use Rattle.ca_cell.specs.declared.defect.Defect.TheVariants.{Short}
+use Rattle.ca_cell.specs.Defect.{new_device}
+use Rattle.ca_cell.proofs.CircuitWithLemmas.{length-changed_from}
 use Rattle.ca_flat.proofs.Places.{inner_apart, inner_step}
 use Rattle.ca_flat.proofs.Shapes.{old_device, new_cases}
 use Rattle.ca_flat.proofs.Spots.{flat_length, body}
 use Rattle.ca_flat.proofs.Split.{place_within}
-use Rattle.ca_core.specs.Core.{core_of, core_instance, rank_of}
-use Rattle.ca_core.proofs.CoreIsChip.{core_is}
+use Rattle.ca_view.specs.Core.{core_of, core_instance, rank_of}
+use Rattle.ca_view.proofs.CoreIsChip.{core_is}
 use Rattle.ca_flatten.specs.Few.{IsFew}
 use Rattle.ca_flatten.specs.declared.sizes.Sizes.{Sizes}
 use Rattle.ca_flatten.specs.code.Kept.{device_total, AreSizes}

@@ -5,8 +5,8 @@ ghost use Rattle.ca_cell.specs.Raw.{circuit_of};
 ghost use Rattle.ca_flat.specs.Chip.{count_of, IsChipDefect};
 ghost use Rattle.ca_flat.specs.Flat.{flat, old_devices, defect_at, devices_of, bridge_of, inner_before};
 ghost use Rattle.ca_linked.specs.Linked.{IsLibrary};
-ghost use Rattle.ca_core.specs.Core.{core_of};
-ghost use Rattle.ca_core.specs.Numbers.{AreCoreNumbers};
+ghost use Rattle.ca_view.specs.Core.{core_of};
+ghost use Rattle.ca_view.specs.Numbers.{AreCoreNumbers};
 ghost use Rattle.ca_flatten.specs.Few.{IsFew};
 ghost use Rattle.ca_flatten.specs.code.Kept.{AreGateMarks, AreSizes, IsSpot};
 
@@ -14,12 +14,11 @@ use crate::gates::Gates;
 use crate::sizes::Sizes;
 use crate::spots::{Spot, cell_at, inner_before, inner_count, moved};
 use ca_base::NoMemory;
-use ca_cell::Cell;
-use ca_core::CoreNets;
-use ca_defect::{Defect, changed_device};
+use ca_cell::{Cell, Defect, changed_device};
 use ca_flat::ChipDefect;
 use ca_linked::{Chip, InstanceId};
 use ca_net::{Device, DeviceId, DeviceList, Network, NodeId};
+use ca_view::CoreNets;
 use std::alloc::Global;
 
 // The defect of an instance.

@@ -4,7 +4,7 @@ ghost use Rattle.std.specs.Prelude.{◌≡◌, Option, IfOk, OnOk};
 ghost use Rattle.ca_flat.specs.declared.chip_defect.ChipDefect.{ChipDefect};
 ghost use Rattle.ca_flat.specs.Chip.{IsChipDefect};
 ghost use Rattle.ca_flat.specs.Flat.{flat};
-ghost use Rattle.ca_core.specs.Core.{core_of};
+ghost use Rattle.ca_view.specs.Core.{core_of};
 ghost use Rattle.ca_flatten.specs.Few.{IsFew};
 
 use crate::devices::devices_of;
@@ -12,10 +12,10 @@ use crate::gates::gates_of;
 use crate::nodes::nodes_of;
 use crate::sizes::sizes_of;
 use ca_base::NoMemory;
-use ca_core::core_nets;
 use ca_flat::ChipDefect;
 use ca_linked::Chip;
 use ca_net::{DeviceList, FlatNet, NetFault, NodeList};
+use ca_view::core_nets;
 use std::alloc::Global;
 
 // The network of these nodes and devices, which are those of the flat network.

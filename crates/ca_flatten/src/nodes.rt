@@ -5,17 +5,17 @@ ghost use Rattle.ca_net.specs.declared.scale.TheConstants.{INNER_NODE};
 ghost use Rattle.ca_net.specs.declared.node.NodeKind.TheVariants.{Storage};
 ghost use Rattle.ca_flat.specs.Flat.{flat, new_nodes, defect_of};
 ghost use Rattle.ca_linked.specs.Linked.{net_count, is_scan_path};
-ghost use Rattle.ca_core.specs.Core.{core_of, kind_of};
-ghost use Rattle.ca_core.specs.Numbers.{AreCoreNumbers};
+ghost use Rattle.ca_view.specs.Core.{core_of, kind_of};
+ghost use Rattle.ca_view.specs.Numbers.{AreCoreNumbers};
 ghost use Rattle.ca_flatten.specs.code.Kept.{AreGateMarks, AreSizes, core_kind};
 
 use crate::gates::Gates;
 use crate::sizes::Sizes;
 use ca_base::NoMemory;
-use ca_core::CoreNets;
 use ca_flat::ChipDefect;
 use ca_linked::{Chip, InstanceId, NetId, Source};
 use ca_net::{INNER_NODE, NodeKind, NodeList, OUTPUT_NET};
+use ca_view::CoreNets;
 use std::alloc::Global;
 
 // The kind of a net: that of an output net where a library instance or an inverted output drives it.

@@ -2,15 +2,15 @@
 
 ghost use Rattle.std.specs.Prelude.{◌≡◌, ◌^◌, ◌<◌, length, IfSome};
 ghost use Rattle.ca_flat.specs.Chip.{circuit_at};
-ghost use Rattle.ca_core.specs.Core.{core_of};
-ghost use Rattle.ca_core.specs.Numbers.{AreCoreNumbers};
+ghost use Rattle.ca_view.specs.Core.{core_of};
+ghost use Rattle.ca_view.specs.Numbers.{AreCoreNumbers};
 ghost use Rattle.ca_flatten.specs.code.Kept.{AreGateMarks, AreSizes};
 
 use crate::gates::Gates;
 use crate::spots::{cell_at, inner_count};
-use ca_core::CoreNets;
 use ca_linked::{Chip, InstanceId};
 use ca_net::Network;
+use ca_view::CoreNets;
 
 // The most nodes, and the most devices, of a network.
 const MOST: usize = u32::MAX as usize;

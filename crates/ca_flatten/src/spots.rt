@@ -7,17 +7,17 @@ ghost use Rattle.ca_flat.specs.Chip.{cell_at, circuit_at, inputs_at, outputs_at,
 ghost use Rattle.ca_flat.specs.Chip.{IsChipDefect};
 ghost use Rattle.ca_flat.specs.Flat.{circuit_in, inner_count, inner_before, place};
 ghost use Rattle.ca_linked.specs.Linked.{IsLibrary};
-ghost use Rattle.ca_core.specs.Core.{core_of};
-ghost use Rattle.ca_core.specs.Numbers.{AreCoreNumbers};
+ghost use Rattle.ca_view.specs.Core.{core_of};
+ghost use Rattle.ca_view.specs.Numbers.{AreCoreNumbers};
 ghost use Rattle.ca_flatten.specs.Few.{IsFew};
 ghost use Rattle.ca_flatten.specs.code.Kept.{mark_at, AreGateMarks, IsSpot, IsInverting};
 
 use crate::gates::Gates;
 use ca_cell::Cell;
-use ca_core::CoreNets;
 use ca_flat::ChipDefect;
 use ca_linked::{Chip, InstanceId};
 use ca_net::{Device, Network, NodeId};
+use ca_view::CoreNets;
 
 /// An instance, and the flat nodes from which on its inner nodes and the new node of the defect are.
 #[derive(Clone, Copy)]

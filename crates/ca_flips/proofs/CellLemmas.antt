@@ -21,7 +21,7 @@ use Rattle.ca_parts.proofs.RisingLimits.{limits_rise_lem, limits_exist_lem, stea
 use Rattle.ca_parts.proofs.EndLaws.{meets, are_meets, meets_under_first, meets_under_last, ends_are_unique_lem}
 use Rattle.ca_parts.proofs.EndLaws.{ends_are_kept_lem}
 use Rattle.ca_cell.specs.Raw.{is_input, is_output, role_count, circuit_of}
-use Rattle.ca_defect.specs.Exposes.{pin_vector, CellEndsAt}
+use Rattle.ca_cell.specs.Exposes.{pin_vector, CellEndsAt}
 use Rattle.ca_flat.proofs.Shapes.{IsCellCircuit, good_circuit}
 use Rattle.ca_flips.specs.Static.{node_of_output, EndsByLast}
 use Rattle.ca_flips.specs.Laws.{EndsByLastIsLimit, LastsAreOfLasts, LastEndIsOne, EndsByLastIsSteady}

@@ -8,7 +8,7 @@ use Rattle.ca_net.specs.State.{value_at}
 use Rattle.ca_net.specs.Limits.{HasInputs, AreLimits}
 use Rattle.ca_net.specs.Wave.{firsts, mids, lasts}
 use Rattle.ca_parts.proofs.RisingLimits.{limits_over}
-use Rattle.ca_defect.specs.Exposes.{pin_vector}
+use Rattle.ca_cell.specs.Exposes.{pin_vector}
 use Rattle.ca_flat.specs.declared.chip_defect.ChipDefect.{ChipDefect}
 use Rattle.ca_flat.specs.Chip.{Chip, inputs_at, outputs_at, net_of, output_net}
 use Rattle.ca_flat.specs.Flat.{circuit_in, flat}

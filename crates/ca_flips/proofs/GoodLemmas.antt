@@ -4,7 +4,7 @@ use Rattle.ca_net.specs.declared.trit.Trit.{Trit}
 use Rattle.ca_net.specs.declared.trit.Trit.TheVariants.{X}
 use Rattle.ca_net.specs.declared.wave.Wave.{Wave}
 use Rattle.ca_parts.proofs.TritLemmas.{same_stable}
-use Rattle.ca_defect.specs.Exposes.{opposite_of}
+use Rattle.ca_cell.specs.Exposes.{opposite_of}
 use Rattle.ca_flat.specs.declared.chip_defect.ChipDefect.{ChipDefect}
 use Rattle.ca_flat.specs.Chip.{Chip, inputs_at, outputs_at, net_of, output_net, count_of, IsChip}
 use Rattle.ca_flat.specs.Pair.{NetEndsAt, DetectsAt}

@@ -10,7 +10,7 @@ use Rattle.ca_net.specs.PairRun.{EndsAt}
 use Rattle.ca_net.specs.Limits.{HasInputs}
 use Rattle.ca_parts.specs.Composition.{InputsUnder}
 use Rattle.ca_parts.proofs.Compose.{shows_part}
-use Rattle.ca_defect.specs.Exposes.{pin_vector}
+use Rattle.ca_cell.specs.Exposes.{pin_vector}
 use Rattle.ca_flat.specs.declared.chip_defect.ChipDefect.{ChipDefect}
 use Rattle.ca_flat.specs.Chip.{Chip, cell_at, circuit_at, inputs_at, outputs_at, net_of, output_net, count_of}
 use Rattle.ca_flat.specs.Flat.{circuit_in, place, flat}

@@ -4,7 +4,7 @@ use Rattle.std.specs.List.{All}
 use Rattle.std.proofs.lemmas.List.Elements.{All-nil, All-cons}
 use Rattle.ca_net.specs.declared.trit.Trit.{Trit}
 use Rattle.ca_net.specs.declared.trit.Trit.TheVariants.{X}
-use Rattle.ca_defect.specs.Exposes.{IsDefiniteVector}
+use Rattle.ca_cell.specs.Exposes.{IsDefiniteVector}
 use Rattle.ca_flat.specs.Chip.{Chip, cell_at, inputs_at, net_of}
 use Rattle.ca_flat.specs.Pair.{values_from}
 use Rattle.ca_flips.specs.Flips.{vector_at}

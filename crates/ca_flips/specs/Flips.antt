@@ -9,8 +9,8 @@ use Rattle.ca_net.specs.State.{value_at}
 use Rattle.ca_net.specs.Circuit.{Circuit}
 use Rattle.ca_net.specs.Limits.{AreLimits}
 use Rattle.ca_net.specs.Wave.{firsts, mids, lasts}
-use Rattle.ca_defect.specs.Exposes.{opposite_of, pin_vector}
-use Rattle.ca_defect.specs.List.{faulty_of}
+use Rattle.ca_cell.specs.Exposes.{opposite_of, pin_vector}
+use Rattle.ca_cell.specs.List.{faulty_of}
 use Rattle.ca_flat.specs.declared.chip_defect.ChipDefect.{ChipDefect}
 use Rattle.ca_flat.specs.Chip.{Chip, cell_at, inputs_at, outputs_at, net_of, output_net, count_of}
 use Rattle.ca_flat.specs.Chip.{net_kind}

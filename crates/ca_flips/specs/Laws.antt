@@ -9,7 +9,7 @@ use Rattle.ca_net.specs.State.{value_at, IsStateBelow}
 use Rattle.ca_net.specs.Limits.{AreLimits}
 use Rattle.ca_cell.specs.declared.raw.RawCell.{RawCell}
 use Rattle.ca_cell.specs.Raw.{is_output, role_count, circuit_of}
-use Rattle.ca_defect.specs.Exposes.{pin_vector, CellEndsAt}
+use Rattle.ca_cell.specs.Exposes.{pin_vector, CellEndsAt}
 use Rattle.ca_flat.specs.declared.chip_defect.ChipDefect.{ChipDefect}
 use Rattle.ca_flat.specs.Chip.{Chip, IsChip, IsCell, outputs_at, output_net, count_of}
 use Rattle.ca_flat.specs.Flat.{flat}

@@ -3,7 +3,7 @@ use Rattle.std.specs.Prelude.{ℕ, ◌+◌, ◌<◌, List, []}
 use Rattle.ca_net.specs.declared.trit.Trit.{Trit}
 use Rattle.ca_cell.specs.declared.raw.RawCell.{RawCell}
 use Rattle.ca_cell.specs.Raw.{is_input, is_output, role_count, circuit_of}
-use Rattle.ca_defect.specs.Exposes.{IsDefiniteVector, CellEndsAt}
+use Rattle.ca_cell.specs.Exposes.{IsDefiniteVector, CellEndsAt}
 
 -- the node of an output pin of the cell: it comes after power, ground and the input pins
 abbrev pub node_of_output : RawCell → ℕ → ℕ

@@ -14,7 +14,7 @@ use Rattle.ca_diagnosing.specs.Diagnosing.{FitsDiagnosis}
 use Rattle.ca_verifying.specs.Verifying.{FitsVerification}
 use Rattle.ca_linked.specs.Instances.{IsNamedGate}
 use Rattle.ca_flat.specs.Chip.{cell_at}
-use Rattle.ca_core.specs.Core.{core_of}
+use Rattle.ca_view.specs.Core.{core_of}
 use Rattle.ca_request.specs.Asked.{FitsInputs, defect_called}
 use Rattle.ca_words.specs.Words.{cell_files, cell_word, vector_word, first_word, last_word, defect_word, dash}
 use Rattle.ca_words.specs.Words.{chip_files, instance_word, chip_defect_word, chip_first_word, chip_last_word}

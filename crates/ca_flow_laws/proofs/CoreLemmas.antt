@@ -14,8 +14,8 @@ use Rattle.ca_linked.specs.Linked.{inputs_of, outputs_of}
 use Rattle.ca_wiring.specs.Wiring.{Wiring}
 use Rattle.ca_wiring.specs.Linking.{IsLinkOf}
 use Rattle.ca_link.proofs.NetsLemmas.{same_nets, wire_of_net}
-use Rattle.ca_core.specs.Core.{core_net, stored_nets, kind_of, core_kinds, empty_cell, core_instance, trit_of}
-use Rattle.ca_core.specs.Core.{constant_on, in_net_order, core_of}
+use Rattle.ca_view.specs.Core.{core_net, stored_nets, kind_of, core_kinds, empty_cell, core_instance, trit_of}
+use Rattle.ca_view.specs.Core.{constant_on, in_net_order, core_of}
 use Rattle.ca_link_laws.specs.Alike.{AreBodiesAlike, AreAlike, HaveOneCell}
 use Rattle.ca_link_laws.proofs.AlikeLemmas.{links_alike, one_cell}
 use Rattle.ca_link_laws.proofs.TraceLemmas.{one_ports}

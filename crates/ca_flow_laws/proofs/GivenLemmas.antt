@@ -9,14 +9,14 @@ use Rattle.std.proofs.Math.Decide.{dec_lt}
 use Rattle.std.proofs.lemmas.Option.{slice_get_within}
 use Rattle.ca_net.specs.declared.trit.Trit.{Trit}
 use Rattle.ca_net.specs.Circuit.{Circuit}
-use Rattle.ca_defect.specs.declared.defect.Defect.{Defect}
+use Rattle.ca_cell.specs.declared.defect.Defect.{Defect}
 use Rattle.ca_flat.specs.declared.chip_defect.ChipDefect.{ChipDefect}
 use Rattle.ca_flat.specs.Chip.{cell_at}
 use Rattle.ca_flat.specs.Flat.{flat}
 use Rattle.ca_flat.specs.Pair.{first_vector, last_vector}
 use Rattle.ca_linked.specs.Linked.{LinkedChip, inputs_of}
 use Rattle.ca_linked.specs.Instances.{IsNamedGate}
-use Rattle.ca_core.specs.Core.{core_of}
+use Rattle.ca_view.specs.Core.{core_of}
 use Rattle.ca_request.specs.Vectors.{dash, letters_of}
 use Rattle.ca_request.specs.Asked.{defect_called, AreBothOrNeither, IsAskedDefect, IsDefectCause}
 use Rattle.ca_order.specs.declared.event.Event.{Event}

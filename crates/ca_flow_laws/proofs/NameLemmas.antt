@@ -3,8 +3,8 @@ use Rattle.std.proofs.Common.{◌≡◌, ℕ, List, Some}
 use Rattle.ca_cell.specs.declared.raw.RawCell.{RawCell}
 use Rattle.ca_cell.specs.declared.strength.StrengthTable.{StrengthTable}
 use Rattle.ca_cell.specs.Rules.{KeepsRules}
-use Rattle.ca_defect.specs.Laws.{DefectsDiffer}
-use Rattle.ca_defect.proofs.DistinctLemmas.{defects_differ}
+use Rattle.ca_cell.specs.Laws.{DefectsDiffer}
+use Rattle.ca_cell.proofs.DistinctLemmas.{defects_differ}
 use Rattle.ca_spice.specs.Called.{cell_called}
 use Rattle.ca_spice.proofs.PlainLemmas.{plain_names}
 

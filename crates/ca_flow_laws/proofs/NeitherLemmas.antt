@@ -49,7 +49,7 @@ use Rattle.ca_load.specs.Chips.{IsChipOf, BreakFirst, IsPlainRule, IsOfCell, IsP
 use Rattle.ca_load.specs.Causes.{IsRatioCause, IsStrengthsCause, IsTextCause, IsModuleCause, IsRecordCause, HasLibrary, HasNetlist, IsScanCause, IsChipFault, IsLoadCause}
 use Rattle.ca_load.proofs.TableLemmas.{table_of_bytes}
 use Rattle.ca_request.specs.Asked.{IsDefectCause}
-use Rattle.ca_core.specs.Core.{core_of}
+use Rattle.ca_view.specs.Core.{core_of}
 use Rattle.ca_outputs.specs.Outputs.{output_names}
 use Rattle.ca_expected.specs.Expected.{AreExpected}
 use Rattle.ca_log.specs.declared.record.LogRecord.{LogRecord}

@@ -5,7 +5,7 @@ use Rattle.ca_store.specs.Store.{Files}
 use Rattle.ca_linked.specs.Linked.{LinkedChip}
 use Rattle.ca_linked.specs.Instances.{IsNamedGate}
 use Rattle.ca_wiring.specs.Wiring.{wiring_of}
-use Rattle.ca_core.specs.Core.{core_of}
+use Rattle.ca_view.specs.Core.{core_of}
 use Rattle.ca_link_laws.specs.Alike.{AreAlike}
 use Rattle.ca_link_laws.proofs.AlikeLemmas.{links_alike}
 use Rattle.ca_link_laws.proofs.TraceLemmas.{alike_back}

@@ -9,7 +9,7 @@ use Rattle.ca_flat.specs.Chip.{cell_at}
 use Rattle.ca_flat.specs.Chip as flat
 use Rattle.ca_linked.specs.Linked.{LinkedChip}
 use Rattle.ca_linked.specs.Instances.{IsNamedGate}
-use Rattle.ca_core.specs.Core.{core_of}
+use Rattle.ca_view.specs.Core.{core_of}
 use Rattle.ca_link_laws.proofs.TraceLemmas.{one_ports}
 use Rattle.ca_request.specs.Vectors.{dash, letters_of}
 use Rattle.ca_request.specs.Asked.{FitsInputs, defect_called, IsAskedDefect, LacksDefect, IsDefectCause, IsVectorsCause}

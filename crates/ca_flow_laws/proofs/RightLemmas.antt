@@ -9,7 +9,7 @@ use Rattle.ca_cell.specs.Library.{Named}
 use Rattle.ca_verilog.specs.declared.raw.RawNetlist.{RawNetlist}
 use Rattle.ca_flat.specs.Chip.{Chip}
 use Rattle.ca_linked.specs.Linked.{LinkedChip, outputs_of}
-use Rattle.ca_core.specs.Core.{core_net, core_of}
+use Rattle.ca_view.specs.Core.{core_net, core_of}
 use Rattle.ca_wiring.specs.declared.scan_row.ScanRow.{ScanRow}
 use Rattle.ca_scan.specs.ChainFault.{AreAllChains}
 use Rattle.ca_code.specs.Filled.{trits_of}

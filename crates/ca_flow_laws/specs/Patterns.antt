@@ -2,7 +2,7 @@
 use Rattle.std.specs.Prelude.{ℕ, ◌≡◌, Bool, List, Some, IsSome, Ok}
 use Rattle.ca_net.specs.declared.trit.Trit.{Trit}
 use Rattle.ca_linked.specs.Linked.{LinkedChip}
-use Rattle.ca_core.specs.Core.{core_of}
+use Rattle.ca_view.specs.Core.{core_of}
 use Rattle.ca_credit.specs.declared.verdict.Verdict.{Verdict}
 use Rattle.ca_expected.specs.Expected.{AreExpected}
 use Rattle.ca_stil_form.specs.Tokens.{tokens_of}

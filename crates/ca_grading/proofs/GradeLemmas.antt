@@ -2,7 +2,7 @@
 use Rattle.std.proofs.Common.{ℕ, ◌<◌, ◌^◌, List, length, Option, arith}
 use Rattle.ca_store.specs.Store.{Files}
 use Rattle.ca_linked.specs.Linked.{LinkedChip}
-use Rattle.ca_core.specs.Core.{core_of}
+use Rattle.ca_view.specs.Core.{core_of}
 use Rattle.ca_expected.specs.Expected.{AreExpected}
 use Rattle.ca_grade.specs.declared.grade.Grade.{Grade}
 use Rattle.ca_grade.specs.Graded.{AreGraded}

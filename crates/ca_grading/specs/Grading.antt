@@ -3,7 +3,7 @@ use Rattle.std.specs.Prelude.{◌≤◌, ℕ, Bool, List, length, Option}
 use Rattle.ca_store.specs.Store.{Files}
 use Rattle.ca_net.specs.declared.trit.Trit.{Trit}
 use Rattle.ca_linked.specs.Linked.{LinkedChip}
-use Rattle.ca_core.specs.Core.{core_of}
+use Rattle.ca_view.specs.Core.{core_of}
 use Rattle.ca_credit.specs.declared.limit.TheConstants.{MOST_PAIRS}
 use Rattle.ca_expected.specs.Expected.{AreExpected}
 use Rattle.ca_grade.specs.declared.grade.Grade.{Grade}

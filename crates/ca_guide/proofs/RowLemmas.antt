@@ -8,7 +8,7 @@ use Rattle.ca_net.specs.declared.trit.Trit.{Trit}
 use Rattle.ca_net.specs.declared.wave.Wave.{Wave}
 use Rattle.ca_net.specs.Trit.{IsBelow}
 use Rattle.ca_net.specs.State.{value_at}
-use Rattle.ca_defect.specs.Row.{digit_value, vector_of}
+use Rattle.ca_cell.specs.Row.{digit_value, vector_of}
 use Rattle.ca_guide.specs.declared.rows.End.{End}
 use Rattle.ca_flat.specs.Waves.{unknown_wave}
 use Rattle.ca_guide.specs.PinRows.{end_of, pin_value, IsOverPins, IsOver}

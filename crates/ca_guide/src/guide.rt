@@ -15,7 +15,7 @@ use crate::rows::is_some_row_allowed;
 use crate::support::find_support;
 use crate::waves::NetWaves;
 use ca_base::NoMemory;
-use ca_defect::Rows;
+use ca_cell::Rows;
 use ca_flat::ChipDefect;
 use ca_view::View;
 use std::alloc::Global;

@@ -2,12 +2,11 @@
 
 ghost use Rattle.std.specs.Prelude.{◌≡◌, ◌<◌, ◌≤◌, ◌+◌, ◌/◌, ◌%◌, ◌^◌, ◌↔◌, IsTrue, IsFalse, length};
 ghost use Rattle.std.specs.List.{All};
-ghost use Rattle.ca_defect.specs.Row.{digit_value};
+ghost use Rattle.ca_cell.specs.Row.{digit_value};
 ghost use Rattle.ca_guide.specs.PinRows.{end_of, IsOver, IsAllowed, IsSomeAllowed, IsNoneAllowed};
 
 use crate::waves::NetWaves;
-use ca_cell::MOST_INPUTS;
-use ca_defect::{Row, Rows};
+use ca_cell::{MOST_INPUTS, Row, Rows};
 use ca_net::{Trit, Wave, below};
 
 // Which vector of a pair.

@@ -8,9 +8,9 @@ ghost use Rattle.ca_confined.specs.Confined.{IsSimOf};
 ghost use Rattle.ca_judge.specs.Attempt.{IsAimed, IsOnWay};
 
 use crate::attempt_waves::AttemptWaves;
+use ca_cell::Rows;
 use ca_code::{packed, unpacked};
 use ca_confined::Confined;
-use ca_defect::Rows;
 use ca_flat::{ChipDefect, Token};
 use ca_guide::{Attempt, Choice, Guide};
 use ca_sim::Sim;

@@ -9,7 +9,7 @@ use Rattle.std.proofs.lemmas.List.Elements.{All-nil, All-cons, All-head, All-tai
 use Rattle.ca_net.specs.declared.trit.Trit.{Trit}
 use Rattle.ca_net.specs.declared.trit.Trit.TheVariants.{Zero, One, X}
 use Rattle.ca_net.specs.Trit.{IsBelow}
-use Rattle.ca_defect.proofs.NumberLemmas.{number_of, number_within}
+use Rattle.ca_cell.proofs.NumberLemmas.{number_of, number_within}
 use Rattle.ca_lanes.specs.Choice.{Choice, choice_for}
 use Rattle.ca_lanes.specs.code.Allowed.{doubled, allowed_by}
 

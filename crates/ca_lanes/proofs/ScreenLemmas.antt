@@ -6,7 +6,7 @@ use Rattle.std.specs.List.{list_any}
 use Rattle.std.proofs.lemmas.Bool.{cases_lt}
 use Rattle.std.proofs.Math.Seq.{take-length}
 use Rattle.ca_net.specs.declared.trit.Trit.{Trit}
-use Rattle.ca_defect.specs.declared.row.Row.{Row}
+use Rattle.ca_cell.specs.declared.row.Row.{Row}
 use Rattle.ca_flat.specs.declared.chip_defect.ChipDefect.{ChipDefect}
 use Rattle.ca_flat.specs.Chip.{Chip, instance_at, inputs_at, outputs_at, net_of, count_of, IsChip}
 use Rattle.ca_flat.specs.Rows.{ListsExposingRows}

@@ -9,7 +9,7 @@ use Rattle.ca_cell.specs.declared.rule.CellRule.TheVariants.{TooManyInputs, NoOu
 use Rattle.ca_cell.specs.declared.rule.TheConstants.{MOST_INPUTS}
 use Rattle.ca_cell.specs.Raw.{is_input, role_count}
 use Rattle.ca_cell.specs.Rules.{KeepsAllBut}
-use Rattle.ca_defect.specs.declared.row.Row.{Row}
+use Rattle.ca_cell.specs.declared.row.Row.{Row}
 use Rattle.ca_flat.specs.Chip.{Chip, instance_at, cell_at, inputs_at, outputs_at, net_of}
 use Rattle.ca_lanes.specs.Screened.{IsRowIn, DefectsAreScreenable}
 

@@ -5,14 +5,14 @@ use Rattle.std.specs.List.{Contains, list_any}
 use Rattle.std.proofs.lemmas.Bool.{eqb-true, eq-eqb}
 use Rattle.std.proofs.lemmas.List.Folds.{Any-from_list_any, list_any-from_Any}
 use Rattle.ca_net.specs.declared.trit.Trit.{Trit}
-use Rattle.ca_defect.specs.declared.row.Row.{Row}
-use Rattle.ca_defect.specs.Row.{vector_of}
-use Rattle.ca_defect.specs.Exposes.{Exposes}
+use Rattle.ca_cell.specs.declared.row.Row.{Row}
+use Rattle.ca_cell.specs.Row.{vector_of}
+use Rattle.ca_cell.specs.Exposes.{Exposes}
 use Rattle.ca_flat.specs.declared.chip_defect.ChipDefect.{ChipDefect}
 use Rattle.ca_flat.specs.Chip.{Chip, cell_at, inputs_at}
 use Rattle.ca_flat.specs.Rows.{ListsExposingRows}
 use Rattle.ca_flat.specs.TwoFrame.{IsVectorOver, IsSuspect}
-use Rattle.ca_defect.proofs.NumberLemmas.{number_of}
+use Rattle.ca_cell.proofs.NumberLemmas.{number_of}
 use Rattle.ca_lanes.specs.code.Allowed.{is_row_allowed}
 use Rattle.ca_lanes.proofs.AllowedLemmas.{allowed_for, HasVector, allowed_is_over}
 use Rattle.ca_lanes.proofs.GivenLemmas.{and_first, and_second}

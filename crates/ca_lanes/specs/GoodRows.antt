@@ -5,8 +5,8 @@ use Rattle.ca_net.specs.declared.trit.Trit.TheVariants.{X}
 use Rattle.ca_net.specs.State.{value_at}
 use Rattle.ca_cell.specs.declared.raw.RawCell.{RawCell}
 use Rattle.ca_cell.specs.Raw.{is_input, is_output, role_count, circuit_of}
-use Rattle.ca_defect.specs.Row.{vector_of}
-use Rattle.ca_defect.specs.Exposes.{CellEndsAt}
+use Rattle.ca_cell.specs.Row.{vector_of}
+use Rattle.ca_cell.specs.Exposes.{CellEndsAt}
 use Rattle.ca_flat.specs.Chip.{Chip, cell_at, circuit_at, inputs_at, outputs_at, count_of, IsChip}
 
 -- the good value of a row at an output: by the first vector, then the last one, then the output

@@ -5,7 +5,7 @@ use Rattle.ca_net.specs.declared.trit.Trit.{Trit}
 use Rattle.ca_net.specs.State.{value_at}
 use Rattle.ca_net.specs.Circuit.{IsWellFormed}
 use Rattle.ca_cell.specs.declared.rule.TheConstants.{MOST_INPUTS}
-use Rattle.ca_defect.specs.declared.row.Row.{Row}
+use Rattle.ca_cell.specs.declared.row.Row.{Row}
 use Rattle.ca_flat.specs.declared.chip_defect.ChipDefect.{ChipDefect}
 use Rattle.ca_flat.specs.Chip.{Chip, instance_at, inputs_at, outputs_at, count_of, IsChip}
 use Rattle.ca_flat.specs.Flat.{flat}

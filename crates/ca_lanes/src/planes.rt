@@ -12,8 +12,7 @@ use crate::plane::{LANES, Plane};
 use crate::screen::suspect_lanes;
 use crate::values::Values;
 use ca_base::NoMemory;
-use ca_cell::MOST_INPUTS;
-use ca_defect::Rows;
+use ca_cell::{MOST_INPUTS, Rows};
 use ca_net::Trit;
 use std::alloc::Global;
 

@@ -7,7 +7,7 @@ ghost use Rattle.ca_lanes.specs.code.Allowed.{lanes_of, is_row_allowed};
 ghost use Rattle.ca_lanes.specs.Screened.{IsRowIn};
 
 use crate::plane::Plane;
-use ca_defect::Row;
+use ca_cell::Row;
 
 // The lanes in which some of the rows is allowed, for the masks of the first vectors and those of the last
 // ones.

@@ -5,7 +5,7 @@ ghost use Rattle.ca_lanes.specs.Planes.{net_count};
 
 use crate::netlists::{NETS, good_rows, hazard, netlist, some_pairs};
 use crate::readable::{have_bits, is_readable, is_screenable};
-use ca_defect::{Row, Rows};
+use ca_cell::{Row, Rows};
 use ca_lanes::{GoodRows, LANES, Netlist, Plane, Planes};
 use ca_net::Trit;
 use ca_pair::Pair;

@@ -5,7 +5,7 @@ ghost use Rattle.std.specs.List.{All};
 ghost use Rattle.ca_lanes.specs.Netlist.{ArePinsOf, IsInstanceReadable, IsReadable, HasBits};
 ghost use Rattle.ca_lanes.specs.Screened.{IsRowIn, IsScreenable};
 
-use ca_defect::{Row, Rows};
+use ca_cell::{Row, Rows};
 use ca_lanes::{Constant, GoodRows, Instance, Netlist};
 use ca_pair::Pair;
 

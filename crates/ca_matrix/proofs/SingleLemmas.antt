@@ -14,12 +14,12 @@ use Rattle.ca_net.specs.declared.trit.Trit.TheVariants.{X}
 use Rattle.ca_net.specs.declared.wave.Wave.{Wave}
 use Rattle.ca_cell.specs.declared.raw.RawCell.{RawCell}
 use Rattle.ca_cell.specs.Raw.{is_input, is_output, role_count, circuit_of}
-use Rattle.ca_defect.specs.declared.defect.Defect.{Defect}
-use Rattle.ca_defect.specs.declared.row.Row.{Row}
-use Rattle.ca_defect.specs.List.{faulty_of}
-use Rattle.ca_defect.specs.Row.{IsBefore, vector_of}
-use Rattle.ca_defect.specs.Exposes.{opposite_of, IsDefiniteVector, CellEndsAt, IsExposingRow}
-use Rattle.ca_defect.proofs.NumberLemmas.{vector_definite}
+use Rattle.ca_cell.specs.declared.defect.Defect.{Defect}
+use Rattle.ca_cell.specs.declared.row.Row.{Row}
+use Rattle.ca_cell.specs.List.{faulty_of}
+use Rattle.ca_cell.specs.Row.{IsBefore, vector_of}
+use Rattle.ca_cell.specs.Exposes.{opposite_of, IsDefiniteVector, CellEndsAt, IsExposingRow}
+use Rattle.ca_cell.proofs.NumberLemmas.{vector_definite}
 use Rattle.ca_response.specs.Outputs.{output_node}
 use Rattle.ca_matrix.specs.code.Filled.{row_at}
 use Rattle.ca_matrix.specs.Single.{AreExposingRows}

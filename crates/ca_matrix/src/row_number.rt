@@ -3,8 +3,7 @@
 ghost use Rattle.std.specs.Prelude.{◌≡◌, ◌*◌, ◌^◌, ◌<◌, ◌≤◌};
 ghost use Rattle.ca_matrix.specs.code.Filled.{row_at};
 
-use ca_cell::MOST_INPUTS;
-use ca_defect::Row;
+use ca_cell::{MOST_INPUTS, Row};
 
 /// How many vectors there are of this many inputs.
 pub(crate) fn vector_count(inputs: usize) -> usize

@@ -18,7 +18,7 @@ use Rattle.ca_cell.proofs.CircuitLemmas.{length-nodes_of, node_of-within}
 use Rattle.ca_flat.specs.Chip.{cell_at}
 use Rattle.ca_flat.specs.Flat.{inner_count}
 use Rattle.ca_linked.specs.Linked.{LinkedChip}
-use Rattle.ca_core.specs.Core.{core_of}
+use Rattle.ca_view.specs.Core.{core_of}
 use Rattle.ca_merged.specs.Blocks.{block_start}
 use Rattle.ca_merged.specs.Cluster.{seat, seated, seated_devices}
 use Rattle.ca_merged.proofs.Lists.{ascending_distinct, get_or_contains}

@@ -28,12 +28,12 @@ use Rattle.ca_linked.proofs.PartLemmas.{has_contains, contains_has}
 use Rattle.ca_flat.specs.Chip.{Instance, Constant, instance_at, cell_at, inputs_at, outputs_at, net_of, output_net}
 use Rattle.ca_flat.specs.Chip.{count_of}
 use Rattle.ca_flat.specs.Chip as flat
-use Rattle.ca_core.specs.Core.{core_net, core_kinds, stored_nets, kind_of, core_instance, core_of, constant_on}
-use Rattle.ca_core.specs.Core.{trit_of, core_constants, in_net_order}
-use Rattle.ca_core.proofs.CoreLemmas.{IsOutside, core_less, core_same, length-core_kinds, net_of_number}
-use Rattle.ca_core.proofs.CorePartLemmas.{core_at, stored_count, stored_pin, read_count, read_pin, stored_is_data}
-use Rattle.ca_core.proofs.CorePartLemmas.{read_is_data}
-use Rattle.ca_core.proofs.CoreIsChip.{body_of, data_within, data_outside, number_within}
+use Rattle.ca_view.specs.Core.{core_net, core_kinds, stored_nets, kind_of, core_instance, core_of, constant_on}
+use Rattle.ca_view.specs.Core.{trit_of, core_constants, in_net_order}
+use Rattle.ca_view.proofs.CoreLemmas.{IsOutside, core_less, core_same, length-core_kinds, net_of_number}
+use Rattle.ca_view.proofs.CorePartLemmas.{core_at, stored_count, stored_pin, read_count, read_pin, stored_is_data}
+use Rattle.ca_view.proofs.CorePartLemmas.{read_is_data}
+use Rattle.ca_view.proofs.CoreIsChip.{body_of, data_within, data_outside, number_within}
 use Rattle.ca_merged.specs.Cluster.{is_member, is_driven, is_read, is_fed, cluster_inputs, cluster_outputs}
 use Rattle.ca_merged.specs.Cluster.{cluster_cell}
 use Rattle.ca_merged.specs.Merged.{others, cluster_of, merged}

@@ -14,7 +14,7 @@ use Rattle.ca_linked.specs.declared.parts.Part.{Part}
 use Rattle.ca_linked.specs.declared.parts.PortBit.{PortBit}
 use Rattle.ca_linked.specs.declared.parts.Body.TheVariants.{Gate, Scan}
 use Rattle.ca_linked.specs.Linked.{LinkedChip, net_count, is_scan_path, IsWired, inputs_of, outputs_of}
-use Rattle.ca_core.specs.Core.{core_net, core_kinds, core_instance, core_of, constant_on, in_net_order, kind_of, trit_of}
+use Rattle.ca_view.specs.Core.{core_net, core_kinds, core_instance, core_of, constant_on, in_net_order, kind_of, trit_of}
 use Rattle.ca_merged.specs.Cluster.{is_member, cluster_cell}
 use Rattle.ca_merged.specs.Merged.{merged, cluster_place}
 use Rattle.ca_linked.specs.Linked.{has}

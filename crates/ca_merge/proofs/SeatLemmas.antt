@@ -17,10 +17,10 @@ use Rattle.ca_linked.specs.declared.parts.Body.TheVariants.{Gate, Scan}
 use Rattle.ca_linked.specs.Linked.{LinkedChip, net_count, gate_inputs, gate_outputs, input_nets, output_nets, IsGate, IsWired}
 use Rattle.ca_linked.specs.Instances.{IsCellOf}
 use Rattle.ca_linked.proofs.OrderLemmas.{contained_at}
-use Rattle.ca_core.specs.Core.{core_net, core_instance, core_of, rank_of}
-use Rattle.ca_core.proofs.CoreLemmas.{IsOutside}
-use Rattle.ca_core.proofs.CorePartLemmas.{core_at}
-use Rattle.ca_core.proofs.CoreIsChip.{core_is}
+use Rattle.ca_view.specs.Core.{core_net, core_instance, core_of, rank_of}
+use Rattle.ca_view.proofs.CoreLemmas.{IsOutside}
+use Rattle.ca_view.proofs.CorePartLemmas.{core_at}
+use Rattle.ca_view.proofs.CoreIsChip.{core_is}
 use Rattle.ca_merged.specs.Cluster.{seat, net_seat, cluster_inputs, cluster_outputs, is_driven, input_count}
 use Rattle.ca_merged.specs.Cluster.{output_count, is_fed}
 use Rattle.ca_merged.proofs.Lists.{place_of, passing_distinct}

@@ -21,9 +21,9 @@ use Rattle.ca_cell.proofs.NodeLemmas.{few_devices}
 use Rattle.ca_flat.specs.Chip.{cell_at}
 use Rattle.ca_flat.specs.Flat.{inner_count}
 use Rattle.ca_linked.specs.Linked.{LinkedChip, net_count, IsWired}
-use Rattle.ca_core.specs.Core.{core_of}
-use Rattle.ca_core.specs.Core as core
-use Rattle.ca_core.proofs.CoreIsChip.{core_is}
+use Rattle.ca_view.specs.Core.{core_of}
+use Rattle.ca_view.specs.Core as core
+use Rattle.ca_view.proofs.CoreIsChip.{core_is}
 use Rattle.ca_flat.specs.Chip as flat
 use Rattle.ca_merged.specs.Cluster.{bare_pin, pins_of, input_count, output_count, seated, seated_devices, cluster_cell}
 use Rattle.ca_merged.specs.Merged.{AreMembers}

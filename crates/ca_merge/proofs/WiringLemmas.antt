@@ -29,10 +29,10 @@ use Rattle.ca_linked.specs.Order.{IsChain, HasNoLoop, IsOrder}
 use Rattle.ca_linked.proofs.OrderLemmas.{place_of, contained_at}
 use Rattle.ca_linked.proofs.PartLemmas.{of_all, has_contains, contains_has}
 use Rattle.ca_flat.specs.Chip.{Instance, IsChip, inputs_at, outputs_at, net_of, output_net}
-use Rattle.ca_core.specs.Core.{core_net, stored_nets, core_instance, core_of, rank_of}
-use Rattle.ca_core.proofs.CoreLemmas.{IsOutside}
-use Rattle.ca_core.proofs.CorePartLemmas.{core_at, stored_count, stored_pin, read_count, read_pin}
-use Rattle.ca_core.proofs.CoreIsChip.{core_is}
+use Rattle.ca_view.specs.Core.{core_net, stored_nets, core_instance, core_of, rank_of}
+use Rattle.ca_view.proofs.CoreLemmas.{IsOutside}
+use Rattle.ca_view.proofs.CorePartLemmas.{core_at, stored_count, stored_pin, read_count, read_pin}
+use Rattle.ca_view.proofs.CoreIsChip.{core_is}
 use Rattle.ca_merged.specs.Cluster.{is_member, cluster_cell}
 use Rattle.ca_merged.specs.Merged.{merged}
 use Rattle.ca_merged.proofs.Ends.{merged_is_chip_lem}

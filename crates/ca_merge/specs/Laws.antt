@@ -4,7 +4,7 @@ use Rattle.ca_cell.specs.Rules.{KeepsRules}
 use Rattle.ca_linked.specs.Linked.{LinkedChip, Feeds, IsLibrary, IsWired}
 use Rattle.ca_linked.specs.Order.{HasNoLoop, IsOrder}
 use Rattle.ca_linked.specs.Wired.{IsReady}
-use Rattle.ca_core.specs.Core.{core_of}
+use Rattle.ca_view.specs.Core.{core_of}
 use Rattle.ca_merged.specs.Cluster.{cluster_cell}
 use Rattle.ca_merged.specs.Merged.{AreMembers, merged}
 use Rattle.ca_merge.specs.Draft.{merged_draft, AreGates}

@@ -6,7 +6,7 @@ ghost use Rattle.ca_cell.specs.Rules.{KeepsRules, node_count};
 ghost use Rattle.ca_cell.specs.declared.rule.TheConstants.{MOST_DEVICES};
 ghost use Rattle.ca_flat.specs.Chip.{cell_at};
 ghost use Rattle.ca_flat.specs.Flat.{inner_count};
-ghost use Rattle.ca_core.specs.Core.{core_of};
+ghost use Rattle.ca_view.specs.Core.{core_of};
 ghost use Rattle.ca_merged.specs.Cluster.{bare_pin, pins_of, cluster_cell};
 ghost use Rattle.ca_merged.specs.Merged.{AreMembers};
 ghost use Rattle.ca_merge.specs.Draft.{AreGates};

@@ -1,7 +1,7 @@
 //! The draft of the merged chip.
 
 ghost use Rattle.std.specs.Prelude.{◌≡◌, ◌<◌, ◌^◌, [], ◌∷◌, ◌++◌, length, if◌then◌else◌, IfOk, OnOk};
-ghost use Rattle.ca_core.specs.Core.{core_of};
+ghost use Rattle.ca_view.specs.Core.{core_of};
 ghost use Rattle.ca_merged.specs.Cluster.{cluster_cell};
 ghost use Rattle.ca_merge.specs.Draft.{AreGates, bare_part, cluster_part, cluster_input_nets};
 ghost use Rattle.ca_merge.specs.Draft.{cluster_output_nets, other_parts, merged_draft};

@@ -2,7 +2,7 @@
 
 ghost use Rattle.std.specs.Prelude.{IfOk, IfErr, OnOk};
 ghost use Rattle.ca_cell.specs.Rules.{KeepsRules};
-ghost use Rattle.ca_core.specs.Core.{core_of};
+ghost use Rattle.ca_view.specs.Core.{core_of};
 ghost use Rattle.ca_merged.specs.Cluster.{cluster_cell};
 ghost use Rattle.ca_merge.specs.Merge.{CanMerge, IsMergedOf, IsCause};
 

@@ -3,7 +3,7 @@
 ghost use Rattle.std.specs.Prelude.{◌≡◌, ◌+◌, ◌<◌, ◌^◌, [], ◌++◌, map, length, slice_get, IsSomeAnd, IfOk};
 ghost use Rattle.std.specs.Prelude.{OnOk};
 ghost use Rattle.ca_flat.specs.Chip.{cell_at, circuit_at};
-ghost use Rattle.ca_core.specs.Core.{core_of};
+ghost use Rattle.ca_view.specs.Core.{core_of};
 ghost use Rattle.ca_merged.specs.Cluster.{seat, seated, seated_devices};
 ghost use Rattle.ca_cell.specs.Raw.{inner_count};
 ghost use Rattle.ca_merge.specs.code.Seats.{AreSeated, HasSeat, IsInHand, seat_of};

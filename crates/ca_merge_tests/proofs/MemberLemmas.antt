@@ -8,7 +8,7 @@ use Rattle.std.proofs.lemmas.List.FromFn.{length-range_with_len, get_or-range_wi
 use Rattle.ca_flat.specs.Chip as flat
 use Rattle.ca_linked.specs.declared.parts.Part.{Part}
 use Rattle.ca_linked.specs.Linked.{LinkedChip, IsLibrary}
-use Rattle.ca_core.specs.Core.{core_of, core_instance}
+use Rattle.ca_view.specs.Core.{core_of, core_instance}
 use Rattle.ca_merged.specs.Merged.{IsInstanceChain}
 use Rattle.ca_merged.proofs.Lists.{cons_cases, none_in_nil}
 use Rattle.ca_merge.specs.Merge.{CanMerge}

@@ -9,8 +9,8 @@ use Rattle.ca_net.specs.declared.scale.TheConstants.{INNER_NODE}
 use Rattle.ca_net.specs.declared.node.NodeKind.TheVariants.{Input, Storage}
 use Rattle.ca_net.specs.Circuit.{Circuit, IsWellFormed, IsInput, kind_at}
 use Rattle.ca_net.specs.PairRun.{EndsAt}
-use Rattle.ca_defect.specs.Defect.{bridge, is_short}
-use Rattle.ca_defect.specs.Exposes.{opposite_of}
+use Rattle.ca_cell.specs.Defect.{bridge, is_short}
+use Rattle.ca_cell.specs.Exposes.{opposite_of}
 use Rattle.ca_flat.specs.declared.chip_defect.ChipDefect.{ChipDefect}
 use Rattle.ca_net.specs.State.{value_at}
 use Rattle.ca_flat.specs.Chip.{Chip, IsChip, IsDefectIn, circuit_at}

@@ -7,9 +7,9 @@ use Rattle.ca_net.specs.Circuit.{Circuit}
 use Rattle.ca_net.specs.PairRun.{EndsAt}
 use Rattle.ca_cell.specs.declared.rule.CellRule.TheVariants.{NoOutput}
 use Rattle.ca_cell.specs.Rules.{KeepsAllBut}
-use Rattle.ca_defect.specs.declared.defect.Defect.TheVariants.{Short}
-use Rattle.ca_defect.specs.Defect.{bridge}
-use Rattle.ca_defect.specs.Exposes.{opposite_of}
+use Rattle.ca_cell.specs.declared.defect.Defect.TheVariants.{Short}
+use Rattle.ca_cell.specs.Defect.{bridge}
+use Rattle.ca_cell.specs.Exposes.{opposite_of}
 use Rattle.ca_flat.specs.declared.chip_defect.ChipDefect.{ChipDefect}
 use Rattle.ca_flat.specs.Chip.{Chip, circuit_at, inputs_at, net_of, count_of, Drives}
 use Rattle.ca_flat.specs.Flat.{outer_count, place, flat}

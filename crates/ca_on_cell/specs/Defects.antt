@@ -2,7 +2,7 @@
 use Rattle.std.specs.Prelude.{◌≡◌, ℕ, List}
 use Rattle.ca_cell.specs.declared.raw.RawCell.{RawCell}
 use Rattle.ca_cell.specs.Rules.{KeepsRules}
-use Rattle.ca_defect.specs.Name.{names_of}
+use Rattle.ca_cell.specs.Name.{names_of}
 use Rattle.ca_matrix.specs.Matrix.{Entries}
 use Rattle.ca_matrix.specs.Built.{IsMatrixOf}
 

@@ -8,8 +8,8 @@ use Rattle.ca_net.specs.Circuit.{Circuit}
 use Rattle.ca_cell.specs.declared.raw.RawCell.{RawCell}
 use Rattle.ca_cell.specs.Raw.{is_input, role_count, output_names, circuit_of}
 use Rattle.ca_cell.specs.Rules.{KeepsRules}
-use Rattle.ca_defect.specs.List.{faulty_of}
-use Rattle.ca_defect.specs.Exposes.{CellEndsAt}
+use Rattle.ca_cell.specs.List.{faulty_of}
+use Rattle.ca_cell.specs.Exposes.{CellEndsAt}
 use Rattle.ca_on_cell.specs.declared.pin_values.PinValue.{PinValue}
 pub use Rattle.ca_request.specs.Vectors.{dash, letters_of, trit_of, trits_of}
 pub use Rattle.ca_request.specs.Asked.{defect_called}

@@ -1,7 +1,7 @@
 //! The names that `defects` asks for.
 ghost use Rattle.std.specs.Prelude.{◌≡◌, Some, IfErr, IfOk, OnOk};
 ghost use Rattle.ca_store.specs.Store.{Nothing};
-ghost use Rattle.ca_defect.specs.Name.{names_of};
+ghost use Rattle.ca_cell.specs.Name.{names_of};
 ghost use Rattle.ca_load.specs.Texts.{cells_of};
 ghost use Rattle.ca_on_cell.specs.Cells.{OfCell};
 ghost use Rattle.ca_on_cell.specs.Causes.{IsCellCause};
@@ -10,8 +10,7 @@ ghost use Rattle.ca_on_cell.specs.Defects.{AreDefectNames};
 
 use crate::inputs::{find_cell, typed_words};
 use ca_base::NoMemory;
-use ca_cell::Cell;
-use ca_defect::{defect_names, defects};
+use ca_cell::{Cell, defect_names, defects};
 use ca_fault::Fault;
 use ca_lex::Names;
 use ca_load::open_library;

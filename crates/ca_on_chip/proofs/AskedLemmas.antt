@@ -10,7 +10,7 @@ use Rattle.ca_flat.specs.Chip.{IsChipDefect}
 use Rattle.ca_flat.specs.Flat.{flat}
 use Rattle.ca_linked.specs.Linked.{LinkedChip, IsWired}
 use Rattle.ca_scan.specs.ChainFault.{AreAllChains}
-use Rattle.ca_core.specs.Core.{core_of}
+use Rattle.ca_view.specs.Core.{core_of}
 use Rattle.ca_flatten.specs.Laws.{FlatHasLines}
 use Rattle.ca_fault.specs.declared.fault.Fault.{Fault}
 use Rattle.ca_fault.specs.declared.fault.Fault.TheVariants.{BadVector, NoInstance, NoDefect, TooManyPairs}

@@ -5,7 +5,7 @@ use Rattle.ca_store.specs.ReadFault.{IsWhole}
 use Rattle.ca_net.specs.declared.trit.Trit.{Trit}
 use Rattle.ca_flat.specs.declared.chip_defect.ChipDefect.{ChipDefect}
 use Rattle.ca_linked.specs.Linked.{LinkedChip}
-use Rattle.ca_core.specs.Core.{core_of}
+use Rattle.ca_view.specs.Core.{core_of}
 use Rattle.ca_fault.specs.declared.fault.Fault.{Fault}
 use Rattle.ca_fault.specs.declared.fault.Fault.TheVariants.{Order}
 use Rattle.ca_load.specs.Texts.{InputFiles}

@@ -6,7 +6,7 @@ use Rattle.ca_net.specs.Circuit.{Circuit}
 use Rattle.ca_flat.specs.declared.chip_defect.ChipDefect.{ChipDefect}
 use Rattle.ca_flat.specs.Flat.{flat}
 use Rattle.ca_linked.specs.Linked.{LinkedChip}
-use Rattle.ca_core.specs.Core.{core_of}
+use Rattle.ca_view.specs.Core.{core_of}
 use Rattle.ca_fault.specs.declared.fault.Fault.{Fault}
 use Rattle.ca_fault.specs.declared.fault.Fault.TheVariants.{BadVector, NoInstance, NoDefect, TooManyPairs}
 use Rattle.ca_load.specs.Texts.{InputFiles, Inputs, OfInputs}

@@ -4,7 +4,7 @@ use Rattle.std.proofs.Common.{Bool, arith}
 use Rattle.std.specs.Prelude.{IsSomeAnd}
 use Rattle.ca_store.specs.Store.{Files}
 use Rattle.ca_linked.specs.Linked.{LinkedChip}
-use Rattle.ca_core.specs.Core.{core_of}
+use Rattle.ca_view.specs.Core.{core_of}
 use Rattle.ca_scan.specs.ChainFault.{AreAllChains}
 use Rattle.ca_expected.specs.Expected.{AreExpected}
 use Rattle.ca_expected.specs.Wrong.{IsFirstWrong}

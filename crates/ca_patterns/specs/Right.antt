@@ -2,7 +2,7 @@
 use Rattle.std.specs.Prelude.{ℕ, List, Option}
 use Rattle.ca_store.specs.Store.{Files}
 use Rattle.ca_linked.specs.Linked.{LinkedChip}
-use Rattle.ca_core.specs.Core.{core_of}
+use Rattle.ca_view.specs.Core.{core_of}
 use Rattle.ca_expected.specs.Expected.{AreExpected}
 use Rattle.ca_stil_pairs.specs.declared.file.StilFile.{StilFile}
 use Rattle.ca_load.specs.Files.{OfFile}

@@ -1,14 +1,14 @@
 -- What words name of a linked chip: vectors of its inputs, a library instance, and a defect of its cell.
 use Rattle.std.specs.Prelude.{ℕ, ◌≡◌, ◌≢◌, ◌⊎◌, ◌↔◌, List, find, length, Option, Some, None, IsNone}
 use Rattle.ca_cell.specs.declared.raw.RawCell.{RawCell}
-use Rattle.ca_defect.specs.declared.defect.Defect.{Defect}
-use Rattle.ca_defect.specs.List.{defects_of}
-use Rattle.ca_defect.specs.Name.{is_called}
+use Rattle.ca_cell.specs.declared.defect.Defect.{Defect}
+use Rattle.ca_cell.specs.List.{defects_of}
+use Rattle.ca_cell.specs.Name.{is_called}
 use Rattle.ca_flat.specs.declared.chip_defect.ChipDefect.{ChipDefect}
 use Rattle.ca_flat.specs.Chip.{cell_at}
 use Rattle.ca_linked.specs.Linked.{LinkedChip, inputs_of, IsLibrary}
 use Rattle.ca_linked.specs.Instances.{IsNamedGate}
-use Rattle.ca_core.specs.Core.{core_of}
+use Rattle.ca_view.specs.Core.{core_of}
 use Rattle.ca_flat.specs.Chip.{IsDefectIn}
 use Rattle.ca_fault.specs.declared.fault.Fault.{Fault}
 use Rattle.ca_fault.specs.declared.fault.Fault.TheVariants.{BadVector, NoInstance, NoDefect, NoMemory}

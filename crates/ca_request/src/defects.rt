@@ -7,7 +7,7 @@ ghost use Rattle.ca_request.specs.Vectors.{dash};
 ghost use Rattle.ca_request.specs.Asked.{AreBothOrNeither, IsAskedDefect, IsLibraryDefect, IsDefectStage};
 ghost use Rattle.ca_request.specs.Asked.{IsInstanceStage};
 
-use ca_defect::parse;
+use ca_cell::parse;
 use ca_fault::Fault;
 use ca_flat::ChipDefect;
 use ca_flatten::cell_at;

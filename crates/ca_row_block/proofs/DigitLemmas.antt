@@ -8,7 +8,7 @@ use Rattle.std.proofs.lemmas.Nat.Bits.{bit_at_cat_low, bit_at_cat_high, bit_at-l
 use Rattle.ca_net.specs.declared.trit.Trit.{Trit}
 use Rattle.ca_net.specs.declared.trit.Trit.TheVariants.{Zero, One, X}
 use Rattle.ca_net.specs.State.{value_at}
-use Rattle.ca_defect.specs.Row.{digit_value, vector_of}
+use Rattle.ca_cell.specs.Row.{digit_value, vector_of}
 use Rattle.ca_settle.proofs.WriteLemmas.{write_more}
 use Rattle.ca_planes.specs.Plane.{has_lane}
 use Rattle.ca_block.specs.Limits.{source_lane}

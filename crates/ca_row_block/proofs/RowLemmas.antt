@@ -12,7 +12,7 @@ use Rattle.ca_net.specs.Limits.{HasInputs, IsFirstLimit}
 use Rattle.ca_net.specs.Wave.{input_count, at_inputs}
 use Rattle.ca_cell.specs.declared.raw.RawCell.{RawCell}
 use Rattle.ca_cell.specs.Raw.{is_input, is_output, role_count, inner_count}
-use Rattle.ca_defect.specs.Exposes.{pin_vector}
+use Rattle.ca_cell.specs.Exposes.{pin_vector}
 use Rattle.ca_response.specs.CellNet.{HasNodesOf}
 use Rattle.ca_response.proofs.NodeLemmas.{pins_of}
 use Rattle.ca_settle.proofs.VectorLemmas.{input_count-lt}
@@ -21,7 +21,7 @@ use Rattle.std.specs.Prelude.{Some, slice_get}
 use Rattle.std.proofs.lemmas.Option.{same_Some, slice_get_within}
 use Rattle.ca_net.specs.declared.wave.Wave.{Wave}
 use Rattle.ca_response.specs.Outputs.{output_node}
-use Rattle.ca_defect.specs.Exposes.{CellEndsAt}
+use Rattle.ca_cell.specs.Exposes.{CellEndsAt}
 use Rattle.ca_row_block.specs.declared.room.RowRoom.{RowRoom}
 use Rattle.ca_row_block.specs.Rows.{first_of, last_of, end_at, HoldsRow, AreRowEnds}
 use Rattle.ca_row_block.specs.code.Loaded.{IsLoadedTo, rails_and}

@@ -3,8 +3,8 @@ use Rattle.std.specs.Prelude.{ℕ, ◌≡◌, ◌+◌, ◌<◌, length}
 use Rattle.ca_net.specs.Circuit.{Circuit}
 use Rattle.ca_net.specs.Limits.{IsFirstLimit}
 use Rattle.ca_net.specs.Wave.{input_count}
-use Rattle.ca_defect.specs.Exposes.{pin_vector}
-use Rattle.ca_defect.specs.Row.{vector_of}
+use Rattle.ca_cell.specs.Exposes.{pin_vector}
+use Rattle.ca_cell.specs.Row.{vector_of}
 use Rattle.ca_planes.specs.Trits.{HasNodes, state_in}
 use Rattle.ca_block.specs.Work as work
 use Rattle.ca_row_block.specs.declared.room.RowRoom.{RowRoom}

@@ -7,8 +7,8 @@ use Rattle.ca_net.specs.Circuit.{Circuit}
 use Rattle.ca_net.specs.State.{value_at}
 use Rattle.ca_cell.specs.declared.raw.RawCell.{RawCell}
 use Rattle.ca_cell.specs.Raw.{is_input, is_output, role_count}
-use Rattle.ca_defect.specs.Exposes.{CellEndsAt}
-use Rattle.ca_defect.specs.Row.{vector_of}
+use Rattle.ca_cell.specs.Exposes.{CellEndsAt}
+use Rattle.ca_cell.specs.Row.{vector_of}
 use Rattle.ca_response.specs.Outputs.{output_node, AreEndsOf}
 use Rattle.ca_row_block.specs.declared.room.RowRoom.{RowRoom}
 use Rattle.ca_planes.specs.Trits.{state_in}

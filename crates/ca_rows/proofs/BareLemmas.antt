@@ -15,9 +15,9 @@ use Rattle.ca_parts.proofs.EndLaws.{meets, are_meets, meets_under_first, meets_u
 use Rattle.ca_cell.specs.declared.raw.RawCell.{RawCell}
 use Rattle.ca_cell.specs.Raw.{circuit_of}
 use Rattle.ca_cell.proofs.CircuitLemmas.{well_formed_all_but}
-use Rattle.ca_defect.specs.declared.defect.Defect.{Defect}
-use Rattle.ca_defect.specs.declared.row.Row.{Row}
-use Rattle.ca_defect.specs.Exposes.{IsOutputPin, Exposes}
+use Rattle.ca_cell.specs.declared.defect.Defect.{Defect}
+use Rattle.ca_cell.specs.declared.row.Row.{Row}
+use Rattle.ca_cell.specs.Exposes.{IsOutputPin, Exposes}
 use Rattle.ca_flat.specs.declared.chip_defect.ChipDefect.{ChipDefect}
 use Rattle.ca_flat.specs.Chip.{Instance, cell_at, IsDefectIn}
 use Rattle.ca_flat.specs.Rows.{ListsExposingRows}
@@ -27,8 +27,8 @@ use Rattle.ca_linked.specs.declared.parts.Part.{Part}
 use Rattle.ca_linked.specs.declared.parts.ScanNets.{ScanNets}
 use Rattle.ca_linked.specs.declared.parts.Body.TheVariants.{Gate, Scan}
 use Rattle.ca_linked.specs.Linked.{LinkedChip, IsGate, IsLibrary}
-use Rattle.ca_core.specs.Core.{empty_cell, core_instance, core_of}
-use Rattle.ca_core.proofs.CorePartLemmas.{core_at, part_at, body_is_cell}
+use Rattle.ca_view.specs.Core.{empty_cell, core_instance, core_of}
+use Rattle.ca_view.proofs.CorePartLemmas.{core_at, part_at, body_is_cell}
 use Rattle.ca_flat.specs.Detection.{IsExposableIn}
 
 -- no run's end is sure at a node that no device reaches

@@ -9,13 +9,13 @@ use Rattle.std.proofs.lemmas.Bool.{cases_lt}
 use Rattle.ca_net.specs.declared.trit.Trit.{Trit}
 use Rattle.ca_cell.specs.declared.raw.RawCell.{RawCell}
 use Rattle.ca_cell.specs.Raw.{is_input, role_count}
-use Rattle.ca_defect.specs.declared.defect.Defect.{Defect}
-use Rattle.ca_defect.specs.declared.row.Row.{Row}
-use Rattle.ca_defect.specs.List.{defects_of, IsDefectOf, ListsDefects}
-use Rattle.ca_defect.specs.Name.{name_of, names_of}
-use Rattle.ca_defect.specs.Row.{vector_of}
-use Rattle.ca_defect.specs.Exposes.{IsDefiniteVector, Exposes, IsExposable}
-use Rattle.ca_defect.proofs.NumberLemmas.{number_of, number_within, vector_again}
+use Rattle.ca_cell.specs.declared.defect.Defect.{Defect}
+use Rattle.ca_cell.specs.declared.row.Row.{Row}
+use Rattle.ca_cell.specs.List.{defects_of, IsDefectOf, ListsDefects}
+use Rattle.ca_cell.specs.Name.{name_of, names_of}
+use Rattle.ca_cell.specs.Row.{vector_of}
+use Rattle.ca_cell.specs.Exposes.{IsDefiniteVector, Exposes, IsExposable}
+use Rattle.ca_cell.proofs.NumberLemmas.{number_of, number_within, vector_again}
 use Rattle.ca_matrix.specs.Matrix.{Entries, width_of}
 use Rattle.ca_matrix.specs.Built.{IsMatrixOf}
 use Rattle.ca_matrix.specs.Showing.{ListsExposing}

@@ -11,7 +11,7 @@ use Rattle.std.proofs.lemmas.List.Elements.{Contains-append_left, Contains-appen
 use Rattle.std.proofs.lemmas.Bool.{cases_lt}
 use native.Mathlib.Decide.{ℕ_discrete}
 use Rattle.ca_cell.specs.declared.raw.RawCell.{RawCell}
-use Rattle.ca_defect.specs.declared.row.Row.{Row}
+use Rattle.ca_cell.specs.declared.row.Row.{Row}
 use Rattle.ca_flat.specs.Chip.{Instance, cell_at}
 use Rattle.ca_linked.specs.declared.parts.Body.{Body}
 use Rattle.ca_linked.specs.declared.parts.Part.{Part}
@@ -19,7 +19,7 @@ use Rattle.ca_linked.specs.declared.parts.Body.TheVariants.{Gate, Scan}
 use Rattle.ca_linked.specs.Linked.{LinkedChip, cell_of, IsGate, IsLibrary}
 use Rattle.ca_linked.specs.Instances.{IsOfCell, IsCellOf, if_gate, gates_from, gates_of}
 use Rattle.ca_linked.proofs.OrderLemmas.{place_of}
-use Rattle.ca_core.specs.Core.{core_of}
+use Rattle.ca_view.specs.Core.{core_of}
 use Rattle.ca_view.proofs.PartFacts.{gate_at, at_some, core_gate}
 use Rattle.ca_rows.specs.CellTable.{CellTable}
 use Rattle.ca_rows.specs.code.ChipTable.{IsOfCellAt, HasTable, AreFound, IsChipTable}

@@ -2,9 +2,9 @@
 use Rattle.std.specs.Prelude.{◌↔◌, List}
 use Rattle.std.specs.List.{Contains}
 use Rattle.ca_cell.specs.declared.raw.RawCell.{RawCell}
-use Rattle.ca_defect.specs.declared.defect.Defect.{Defect}
-use Rattle.ca_defect.specs.declared.row.Row.{Row}
-use Rattle.ca_defect.specs.Exposes.{IsExposingRow}
+use Rattle.ca_cell.specs.declared.defect.Defect.{Defect}
+use Rattle.ca_cell.specs.declared.row.Row.{Row}
+use Rattle.ca_cell.specs.Exposes.{IsExposingRow}
 
 -- the list has exactly the rows that expose the defect in the cell
 abbrev pub ListsRows : RawCell → Defect → List Row → Type 0

@@ -1,6 +1,6 @@
 -- The rows of the library cells that a linked chip uses.
 use Rattle.std.specs.Prelude.{List, Option}
-use Rattle.ca_defect.specs.declared.row.Row.{Row}
+use Rattle.ca_cell.specs.declared.row.Row.{Row}
 use Rattle.ca_linked.specs.Linked.{LinkedChip}
 use Rattle.ca_rows.specs.CellTable.{CellTable}
 

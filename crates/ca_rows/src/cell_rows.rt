@@ -1,14 +1,13 @@
 //! For each defect of a cell the rows that expose it.
 
 ghost use Rattle.std.specs.Prelude.{◌≡◌, ◌↔◌, length, IsTrue, IfOk};
-ghost use Rattle.ca_defect.specs.List.{IsDefectOf};
-ghost use Rattle.ca_defect.specs.Exposes.{IsExposable};
+ghost use Rattle.ca_cell.specs.List.{IsDefectOf};
+ghost use Rattle.ca_cell.specs.Exposes.{IsExposable};
 ghost use Rattle.ca_rows.specs.CellTable.{ListsRows};
 ghost use Rattle.ca_rows.specs.code.CellTable.{AreShown};
 
 use ca_base::NoMemory;
-use ca_cell::Cell;
-use ca_defect::{Defect, DefectList, Rows, defects, lists_defects};
+use ca_cell::{Cell, Defect, DefectList, Rows, defects, lists_defects};
 use ca_matrix::Matrix;
 use std::alloc::Global;
 use std::marker::Model;

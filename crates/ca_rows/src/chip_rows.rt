@@ -3,12 +3,12 @@
 ghost use Rattle.std.specs.Prelude.{◌≡◌, IfOk};
 ghost use Rattle.ca_flat.specs.Chip.{cell_at};
 ghost use Rattle.ca_linked.specs.Linked.{IsLibrary};
-ghost use Rattle.ca_core.specs.Core.{core_of};
+ghost use Rattle.ca_view.specs.Core.{core_of};
 
 use crate::cell_rows::CellRows;
 use crate::cells::{Tables, tables_of};
 use ca_base::NoMemory;
-use ca_defect::Rows;
+use ca_cell::Rows;
 use ca_flat::{ChipDefect, ExposableDefects, ExposingRows};
 use ca_linked::{Chip, InstanceId};
 use std::alloc::Global;

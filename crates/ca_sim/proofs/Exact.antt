@@ -9,7 +9,7 @@ use Rattle.ca_net.specs.Wave.{firsts, mids, lasts}
 use Rattle.ca_parts.proofs.TritLemmas.{same_stable}
 use Rattle.ca_parts.proofs.Compose.{shows_part}
 use Rattle.ca_parts.proofs.RisingLimits.{limits_exist_lem}
-use Rattle.ca_defect.specs.Exposes.{pin_vector}
+use Rattle.ca_cell.specs.Exposes.{pin_vector}
 use Rattle.ca_response.specs.Outputs.{wave_in, output_node}
 use Rattle.ca_flat.specs.declared.chip_defect.ChipDefect.{ChipDefect}
 use Rattle.ca_flat.specs.Chip.{Chip, cell_at, inputs_at, outputs_at, net_of, output_net, count_of}

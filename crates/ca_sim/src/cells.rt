@@ -12,7 +12,7 @@ ghost use Rattle.ca_sim.specs.code.Simulator.{CountsOne};
 
 use crate::cache::{Cache, Entry};
 use ca_base::NoMemory;
-use ca_defect::Defect;
+use ca_cell::Defect;
 use ca_flat::ChipDefect;
 use ca_net::{Trit, Wave};
 use ca_response::{OutWaves, PinWaves};

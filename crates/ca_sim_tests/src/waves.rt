@@ -3,7 +3,7 @@
 ghost use Rattle.std.specs.Prelude.{◌<◌};
 
 use crate::chips::{INV, Instances, KEEP, NAND2, NOR4, chip};
-use ca_defect::parse;
+use ca_cell::parse;
 use ca_flat::ChipDefect;
 use ca_linked::Chip;
 use ca_net::{State, Trit, Wave};

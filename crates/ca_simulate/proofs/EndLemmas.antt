@@ -16,8 +16,8 @@ use Rattle.ca_flat.specs.Chip as flat
 use Rattle.ca_flat.specs.Simulation.{IsFlattened}
 use Rattle.ca_linked.specs.Linked.{LinkedChip, IsWired}
 use Rattle.ca_linked.proofs.OrderLemmas.{contained_at}
-use Rattle.ca_core.specs.Core.{core_of, rank_of}
-use Rattle.ca_core.proofs.CoreIsChip.{core_is}
+use Rattle.ca_view.specs.Core.{core_of, rank_of}
+use Rattle.ca_view.proofs.CoreIsChip.{core_is}
 use Rattle.ca_flatten.specs.Few.{IsFew}
 use Rattle.ca_flatten.proofs.NetworkLemmas.{formed}
 use Rattle.ca_view.specs.Linked.{IsAim, place_in}

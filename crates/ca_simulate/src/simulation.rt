@@ -2,7 +2,7 @@
 
 ghost use Rattle.std.specs.Prelude.{◌≡◌, ◌<◌, length, None, IfOk, OnOk};
 ghost use Rattle.ca_linked.specs.Linked.{inputs_of};
-ghost use Rattle.ca_core.specs.Core.{core_of};
+ghost use Rattle.ca_view.specs.Core.{core_of};
 ghost use Rattle.ca_sim.specs.Seen.{IsExact};
 ghost use Rattle.ca_request.specs.Asked.{IsLibraryDefect};
 ghost use Rattle.ca_simulate.specs.Simulated.{pair_of, AreOutputEnds, AreSimulated};

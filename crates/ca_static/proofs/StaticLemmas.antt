@@ -13,9 +13,9 @@ use Rattle.ca_net.specs.Wave.{at_inputs}
 use Rattle.ca_net.specs.PairRun.{EndsAt}
 use Rattle.ca_cell.specs.declared.raw.RawCell.{RawCell}
 use Rattle.ca_cell.specs.Raw.{is_input, is_output, role_count, circuit_of}
-use Rattle.ca_defect.specs.Row.{vector_of}
-use Rattle.ca_defect.specs.Exposes.{pin_vector, CellEndsAt}
-use Rattle.ca_defect.proofs.NumberLemmas.{number_of, number_within, vector_again, vector_definite}
+use Rattle.ca_cell.specs.Row.{vector_of}
+use Rattle.ca_cell.specs.Exposes.{pin_vector, CellEndsAt}
+use Rattle.ca_cell.proofs.NumberLemmas.{number_of, number_within, vector_again, vector_definite}
 use Rattle.ca_response.specs.Outputs.{output_node, AreEndsOf}
 use Rattle.ca_flips.specs.Static.{EndsByLast, LastEnd, IsStatic}
 use Rattle.ca_static.specs.code.StaticAt.{IsStaticAt}

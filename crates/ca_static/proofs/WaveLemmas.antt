@@ -5,7 +5,7 @@ use Rattle.std.specs.List.{All}
 use Rattle.ca_net.specs.declared.trit.Trit.TheVariants.{X}
 use Rattle.ca_net.specs.declared.wave.Wave.{Wave}
 use Rattle.ca_net.specs.Wave.{IsWave, pair_of}
-use Rattle.ca_defect.specs.Row.{digit_value, vector_of}
+use Rattle.ca_cell.specs.Row.{digit_value, vector_of}
 use Rattle.ca_response.proofs.PairLemmas.{pairs_are_waves, length-pairs_of}
 use Rattle.ca_static.specs.code.StaticAt.{waves_to}
 

@@ -6,7 +6,7 @@ ghost use Rattle.ca_net.specs.declared.trit.Trit.TheVariants.{X};
 ghost use Rattle.ca_net.specs.declared.wave.Wave.{Wave};
 ghost use Rattle.ca_net.specs.Wave.{IsWave};
 ghost use Rattle.ca_cell.specs.Raw.{circuit_of};
-ghost use Rattle.ca_defect.specs.Row.{digit_value};
+ghost use Rattle.ca_cell.specs.Row.{digit_value};
 ghost use Rattle.ca_settle.specs.Settled.{IsRoomFor};
 ghost use Rattle.ca_flips.specs.Static.{IsStatic};
 ghost use Rattle.ca_static.specs.code.StaticAt.{IsStaticAt, waves_to};

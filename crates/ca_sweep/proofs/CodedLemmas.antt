@@ -5,7 +5,7 @@ use Rattle.ca_net.specs.declared.trit.Trit.{Trit}
 use Rattle.ca_net.specs.declared.trit.Trit.TheVariants.{X}
 use Rattle.ca_net.specs.declared.wave.Wave.{Wave}
 use Rattle.ca_cell.specs.declared.raw.RawCell.{RawCell}
-use Rattle.ca_defect.specs.declared.defect.Defect.{Defect}
+use Rattle.ca_cell.specs.declared.defect.Defect.{Defect}
 use Rattle.ca_flat.specs.declared.chip_defect.ChipDefect.{ChipDefect}
 use Rattle.ca_flat.specs.Chip.{Chip, cell_at, outputs_at}
 use Rattle.ca_flat.specs.Waves.{IsFlatChip}

@@ -9,7 +9,7 @@ use Rattle.ca_flat.specs.declared.chip_defect.ChipDefect.{ChipDefect}
 use Rattle.ca_flat.specs.Chip.{Chip, cell_at, net_of, outputs_at, output_net, count_of, IsChip}
 use Rattle.ca_flat.specs.Pair.{DetectsAt}
 use Rattle.ca_flat.specs.Waves.{IsFlatChip}
-use Rattle.ca_defect.specs.List.{faulty_of}
+use Rattle.ca_cell.specs.List.{faulty_of}
 use Rattle.ca_flips.specs.Flips.{AreFlipped, IsOpposite, known_or, filled_in, AreLastsOf, AreGoodLasts, AreFaultyLasts}
 use Rattle.ca_flips.specs.Laws.{SweptAreFlipped, DetectedIsFilledIn, DetectedIsFlipped}
 use Rattle.ca_table.specs.Gives.{Gives, wave_at}

@@ -6,8 +6,8 @@ use Rattle.std.proofs.Math.Nat.{two-pow-succ}
 use Rattle.std.proofs.lemmas.List.Elements.{All-nil, All-push}
 use Rattle.ca_net.specs.declared.trit.Trit.{Trit}
 use Rattle.ca_net.specs.declared.trit.Trit.TheVariants.{Zero, One, X}
-use Rattle.ca_defect.specs.Row.{vector_of}
-use Rattle.ca_defect.proofs.NumberLemmas.{number_of, number_within, vector_again}
+use Rattle.ca_cell.specs.Row.{vector_of}
+use Rattle.ca_cell.proofs.NumberLemmas.{number_of, number_within, vector_again}
 use Rattle.ca_flat.specs.Pair.{values_from}
 use Rattle.ca_sweep.specs.code.Changes.{IsNumberOf}
 

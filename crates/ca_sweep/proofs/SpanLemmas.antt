@@ -6,7 +6,7 @@ use Rattle.std.proofs.lemmas.List.{get_or_append_left, length-append}
 use Rattle.std.proofs.Math.Seq.{get_or-append_seam}
 use Rattle.std.proofs.lemmas.Option.{slice_get-get_or, same_Some}
 use Rattle.ca_cell.specs.declared.raw.RawCell.{RawCell}
-use Rattle.ca_defect.specs.declared.defect.Defect.{Defect}
+use Rattle.ca_cell.specs.declared.defect.Defect.{Defect}
 use Rattle.ca_flat.specs.declared.chip_defect.ChipDefect.{ChipDefect}
 use Rattle.ca_sweep.specs.code.Rows.{IsListOf}
 use Rattle.ca_sweep.specs.declared.spans.Span.{Span}

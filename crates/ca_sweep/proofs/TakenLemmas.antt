@@ -6,7 +6,7 @@ use Rattle.ca_net.specs.declared.trit.Trit.{Trit}
 use Rattle.ca_net.specs.declared.wave.Wave.{Wave}
 use Rattle.ca_net.specs.Circuit.{IsWellFormed}
 use Rattle.ca_net.specs.State.{value_at}
-use Rattle.ca_defect.specs.List.{defects_of}
+use Rattle.ca_cell.specs.List.{defects_of}
 use Rattle.ca_flat.specs.declared.chip_defect.ChipDefect.{ChipDefect}
 use Rattle.ca_flat.specs.Chip.{Chip, IsChip, cell_at}
 use Rattle.ca_flat.specs.Flat.{flat}

@@ -4,7 +4,7 @@ use Rattle.std.specs.Prelude.{slice_index_or}
 use Rattle.std.specs.Prelude.{Option, None, Some}
 use Rattle.ca_net.specs.declared.trit.Trit.{Trit}
 use Rattle.ca_net.specs.declared.wave.Wave.{Wave}
-use Rattle.ca_defect.specs.Exposes.{opposite_of}
+use Rattle.ca_cell.specs.Exposes.{opposite_of}
 use Rattle.ca_planes.specs.Plane.{has_lane}
 use Rattle.ca_flat.specs.Chip.{Chip, output_net}
 use Rattle.ca_flat.specs.Codes.{bit_trit}

@@ -1,7 +1,7 @@
 -- Spans of a list of defects: places of defects of one instance, one after another.
 use Rattle.std.specs.Prelude.{ℕ, ◌+◌, ◌≡◌, ◌<◌, ◌≤◌, List, length, slice_get, Some}
 use Rattle.ca_cell.specs.declared.raw.RawCell.{RawCell}
-use Rattle.ca_defect.specs.List.{defects_of}
+use Rattle.ca_cell.specs.List.{defects_of}
 use Rattle.ca_flat.specs.Chip.{Chip}
 use Rattle.ca_flat.specs.declared.chip_defect.ChipDefect.{ChipDefect}
 

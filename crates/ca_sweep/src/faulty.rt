@@ -3,7 +3,7 @@
 ghost use Rattle.std.specs.Prelude.{◌≡◌, ◌<◌, length, IfOk, IfSome, IsTrue};
 ghost use Rattle.std.specs.List.{All};
 ghost use Rattle.ca_net.specs.Wave.{IsWave};
-ghost use Rattle.ca_defect.specs.List.{faulty_of};
+ghost use Rattle.ca_cell.specs.List.{faulty_of};
 ghost use Rattle.ca_table.specs.Gives.{Gives};
 ghost use Rattle.ca_flat.specs.Chip.{cell_at, inputs_at, IsDefectIn};
 ghost use Rattle.ca_view.specs.Linked.{IsPlaced, IsPlacedDefect, place_in};
@@ -13,7 +13,7 @@ ghost use Rattle.ca_sweep.specs.code.Faulty.{AreFaulty, HoldsTrue};
 
 use crate::cells::instance_with;
 use ca_base::NoMemory;
-use ca_defect::Defect;
+use ca_cell::Defect;
 use ca_flat::ChipDefect;
 use ca_net::{Trit, Wave};
 use ca_response::{OutWaves, PinWaves};

@@ -20,7 +20,7 @@ use crate::faulty::{Faulty, same_waves};
 use crate::row::{Codes, MOST_CODES, Row};
 use crate::sweep::is_none;
 use ca_base::NoMemory;
-use ca_defect::{Defect, DefectList, defects};
+use ca_cell::{Defect, DefectList, defects};
 use ca_flat::ChipDefect;
 use ca_net::{Trit, Wave};
 use ca_planes::{LANES, with_lane};

@@ -11,7 +11,7 @@ ghost use Rattle.ca_sweep.specs.code.Rows.{AreLists};
 
 use crate::rows::{is_same, lists_of};
 use ca_base::{List, NoMemory};
-use ca_defect::DefectList;
+use ca_cell::DefectList;
 use ca_flat::ChipDefect;
 use ca_view::View;
 use std::alloc::Global;

@@ -5,12 +5,12 @@ use Rattle.ca_net.specs.declared.wave.Wave.{Wave}
 use Rattle.ca_net.specs.Circuit.{Circuit}
 use Rattle.ca_cell.specs.declared.raw.RawCell.{RawCell}
 use Rattle.ca_cell.specs.Raw.{circuit_of}
-use Rattle.ca_defect.specs.declared.defect.Defect.{Defect}
-use Rattle.ca_defect.specs.declared.defect.Defect.TheVariants.{OpenDrain, OpenSource, OpenGate, OpenPin}
-use Rattle.ca_defect.specs.declared.defect.Defect.TheVariants.{Short}
-use Rattle.ca_defect.specs.Defect.{new_node, new_device, bridge, changed_devices, circuit_with}
-use Rattle.ca_defect.proofs.ListLemmas.{length-append_some, length-append_none}
-use Rattle.ca_defect.proofs.CircuitWithLemmas.{length-changed_from}
+use Rattle.ca_cell.specs.declared.defect.Defect.{Defect}
+use Rattle.ca_cell.specs.declared.defect.Defect.TheVariants.{OpenDrain, OpenSource, OpenGate, OpenPin}
+use Rattle.ca_cell.specs.declared.defect.Defect.TheVariants.{Short}
+use Rattle.ca_cell.specs.Defect.{new_node, new_device, bridge, changed_devices, circuit_with}
+use Rattle.ca_cell.proofs.ListLemmas.{length-append_some, length-append_none}
+use Rattle.ca_cell.proofs.CircuitWithLemmas.{length-changed_from}
 use Rattle.ca_settle.specs.Settled.{Settled, unsettled, IsRoomFor}
 use Rattle.ca_table.specs.Rooms.{AreRoomsOf, IsTableOfCell}
 

@@ -8,7 +8,7 @@ use Rattle.ca_net.specs.Limits.{AreLimits}
 use Rattle.ca_net.specs.Wave.{firsts, mids, lasts}
 use Rattle.ca_cell.specs.declared.raw.RawCell.{RawCell}
 use Rattle.ca_cell.specs.Raw.{is_output, role_count}
-use Rattle.ca_defect.specs.Exposes.{pin_vector}
+use Rattle.ca_cell.specs.Exposes.{pin_vector}
 use Rattle.ca_response.specs.Outputs.{wave_in, output_node}
 
 -- the wave of which no value is known

@@ -3,9 +3,9 @@ use Rattle.std.specs.Prelude.{List, IsSome, IsNone, Option, None, Some}
 use Rattle.ca_net.specs.declared.wave.Wave.{Wave}
 use Rattle.ca_cell.specs.declared.raw.RawCell.{RawCell}
 use Rattle.ca_cell.specs.Raw.{circuit_of}
-use Rattle.ca_defect.specs.declared.defect.Defect.{Defect}
-use Rattle.ca_defect.specs.Defect.{new_node}
-use Rattle.ca_defect.specs.List.{faulty_of}
+use Rattle.ca_cell.specs.declared.defect.Defect.{Defect}
+use Rattle.ca_cell.specs.Defect.{new_node}
+use Rattle.ca_cell.specs.List.{faulty_of}
 use Rattle.ca_settle.specs.Settled.{IsRoomFor}
 use Rattle.ca_table.specs.Table.{IsTableOf}
 use Rattle.ca_table.specs.declared.rooms.Rooms.{Rooms}

@@ -4,14 +4,13 @@ ghost use Rattle.std.specs.Prelude.{◌≡◌, length, IfOk};
 ghost use Rattle.std.specs.List.{All};
 ghost use Rattle.ca_net.specs.Wave.{IsWave};
 ghost use Rattle.ca_cell.specs.Raw.{is_input, role_count, circuit_of};
-ghost use Rattle.ca_defect.specs.List.{IsDefectOf, faulty_of};
+ghost use Rattle.ca_cell.specs.List.{IsDefectOf, faulty_of};
 ghost use Rattle.ca_table.specs.Gives.{Gives};
 ghost use Rattle.ca_table.specs.Rooms.{AreRoomsOf};
 
 use crate::table::{MOST_TABLE_INPUTS, Table};
 use ca_base::NoMemory;
-use ca_cell::Cell;
-use ca_defect::{Defect, Overlay};
+use ca_cell::{Cell, Defect, Overlay};
 use ca_net::{Network, Wave};
 use ca_response::{OutWaves, respond};
 use ca_settle::Work;

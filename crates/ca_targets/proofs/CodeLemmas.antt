@@ -5,7 +5,7 @@ use Rattle.std.specs.List.{All}
 use Rattle.std.proofs.lemmas.Option.{slice_get_read}
 use Rattle.ca_flat.specs.declared.chip_defect.ChipDefect.{ChipDefect}
 use Rattle.ca_linked.specs.Linked.{LinkedChip, IsWired}
-use Rattle.ca_core.specs.Core.{core_of}
+use Rattle.ca_view.specs.Core.{core_of}
 use Rattle.ca_merged.specs.Bridge.{short_of}
 use Rattle.ca_merge.specs.Merge.{CanMerge}
 use Rattle.ca_cluster.specs.declared.bridge.Bridge.{Bridge}

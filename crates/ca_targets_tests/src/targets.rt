@@ -8,9 +8,8 @@ ghost use Rattle.ca_verilog.specs.IsNetlist.{IsNetlist};
 
 use crate::chips::{CASES, LIBRARY};
 use ca_base::NoMemory;
-use ca_cell::{CellRule, StrengthTable};
+use ca_cell::{CellRule, Defect, StrengthTable};
 use ca_cluster::{Bridge, BridgeList, bridge_name, bridges};
-use ca_defect::Defect;
 use ca_flat::ChipDefect;
 use ca_lex::Text;
 use ca_link::link;

@@ -6,7 +6,7 @@ use Rattle.std.proofs.lemmas.List.Elements.{All-weaker}
 use Rattle.ca_store.specs.Store.{Files}
 use Rattle.ca_store.specs.ReadFault.{IsWhole}
 use Rattle.ca_linked.specs.Linked.{LinkedChip, inputs_of}
-use Rattle.ca_core.specs.Core.{core_of, core_net}
+use Rattle.ca_view.specs.Core.{core_of, core_net}
 use Rattle.ca_flat.specs.Pair.{bit_count}
 use Rattle.ca_scan.specs.ChainFault.{AreAllChains}
 use Rattle.ca_chip_stil.specs.ChipStil.{AreOfChip}

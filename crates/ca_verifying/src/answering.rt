@@ -2,7 +2,7 @@
 ghost use Rattle.std.specs.Prelude.{◌≡◌, length, IfOk};
 ghost use Rattle.std.specs.List.{All};
 ghost use Rattle.ca_linked.specs.Linked.{inputs_of};
-ghost use Rattle.ca_core.specs.Core.{core_of};
+ghost use Rattle.ca_view.specs.Core.{core_of};
 ghost use Rattle.ca_claim.specs.Stands.{IsAnswer};
 ghost use Rattle.ca_claim.specs.Laws.{IsYesTrue};
 ghost use Rattle.ca_chip_cert.specs.Listed.{listed_defects};

@@ -3,7 +3,7 @@ use Rattle.std.proofs.Common.{◌≡◌, ℕ, ◌<◌, ◌≤◌, [], ◌∷◌,
 use Rattle.std.specs.Prelude.{IsTrue, not, Option, Some, None, if◌then◌else◌}
 use Rattle.ca_linked.specs.declared.parts.Source.TheVariants.{FromConstant}
 use Rattle.ca_linked.specs.Linked.{LinkedChip, net_count, constant_net, is_scan_path, IsWired}
-use Rattle.ca_core.specs.Core.{core_net, trit_of, constant_on}
+use Rattle.ca_view.specs.Core.{core_net, trit_of, constant_on}
 
 -- one constant drives a net
 pub same_constant : (chip : LinkedChip) → IsWired chip → (net : ℕ) (found value : Bool) → constant_net chip found ≡ Some net → constant_net chip value ≡ Some net

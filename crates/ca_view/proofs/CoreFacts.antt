@@ -6,9 +6,9 @@ use Rattle.ca_cell.specs.Raw.{is_input, role_count}
 use Rattle.ca_linked.specs.declared.parts.Part.{Part}
 use Rattle.ca_linked.specs.Linked.{LinkedChip, gate_inputs, IsWired}
 use Rattle.ca_flat.specs.Chip.{Instance, inputs_at, net_of, count_of}
-use Rattle.ca_core.specs.Core.{core_net, core_instance, core_of, empty_cell}
-use Rattle.ca_core.proofs.CoreIsChip.{body_of}
-use Rattle.ca_core.proofs.CorePartLemmas.{core_at, read_pin, read_count}
+use Rattle.ca_view.specs.Core.{core_net, core_instance, core_of, empty_cell}
+use Rattle.ca_view.proofs.CoreIsChip.{body_of}
+use Rattle.ca_view.proofs.CorePartLemmas.{core_at, read_pin, read_count}
 
 -- the core has an instance for each of the chip
 pub core_count : (chip : LinkedChip) → count_of (core_of chip) ≡ length chip.parts

@@ -17,10 +17,10 @@ use Rattle.ca_linked.specs.declared.parts.Body.TheVariants.{Gate, Scan}
 use Rattle.ca_linked.specs.Linked.{LinkedChip, net_count, is_scan_path, data_nets, port_nets, q_nets, inputs_of}
 use Rattle.ca_linked.specs.Linked.{outputs_of, IsWired}
 use Rattle.ca_linked.proofs.OrderLemmas.{contained_at}
-use Rattle.ca_core.specs.Core.{core_net, core_of}
-use Rattle.ca_core.specs.Numbers.{Numbers, AreCoreNumbers}
-use Rattle.ca_core.proofs.CoreLemmas.{IsOutside}
-use Rattle.ca_core.proofs.CoreIsChip.{data_within, data_outside, number_within, outputs_outside, core_is}
+use Rattle.ca_view.specs.Core.{core_net, core_of}
+use Rattle.ca_view.specs.Numbers.{Numbers, AreCoreNumbers}
+use Rattle.ca_view.proofs.CoreLemmas.{IsOutside}
+use Rattle.ca_view.proofs.CoreIsChip.{data_within, data_outside, number_within, outputs_outside, core_is}
 use Rattle.ca_view.specs.code.Ends.{AreMarked}
 
 -- what the pieces of a list contain

@@ -26,12 +26,12 @@ use Rattle.ca_linked.specs.Instances.{IsScan}
 use Rattle.ca_linked.proofs.PartLemmas.{has_contains}
 use Rattle.ca_flat.specs.Chip.{Constant, net_kind}
 use Rattle.ca_flat.specs.Pair.{constant_value}
-use Rattle.ca_core.specs.Core.{core_net, stored_nets, trit_of, constant_on, in_net_order, core_constants}
-use Rattle.ca_core.specs.Core.{core_of}
-use Rattle.ca_core.proofs.CoreLemmas.{IsOutside, core_same, length-core_kinds, kind_at}
-use Rattle.ca_core.proofs.CorePartLemmas.{first_stored, stored_is_driven}
+use Rattle.ca_view.specs.Core.{core_net, stored_nets, trit_of, constant_on, in_net_order, core_constants}
+use Rattle.ca_view.specs.Core.{core_of}
+use Rattle.ca_view.proofs.CoreLemmas.{IsOutside, core_same, length-core_kinds, kind_at}
+use Rattle.ca_view.proofs.CorePartLemmas.{first_stored, stored_is_driven}
 use Rattle.ca_view.specs.Linked.{IsPinned}
-use Rattle.ca_core.proofs.CoreIsChip.{data_within, data_outside, number_within}
+use Rattle.ca_view.proofs.CoreIsChip.{data_within, data_outside, number_within}
 use Rattle.ca_view.proofs.PartFacts.{some_at}
 
 -- a place of a list that is made of pieces of at most one number: the one whose piece the number is, behind

@@ -1,3 +1,7 @@
+pub mod CoreLemmas
+pub mod CorePartLemmas
+pub mod CoreIsChip
+pub mod NumberLemmas
 pub mod PartFacts
 pub mod CoreFacts
 pub mod RankLemmas

@@ -10,9 +10,9 @@ use Rattle.ca_linked.specs.Linked.{LinkedChip, cell_of, gate_inputs, IsGate, IsL
 use Rattle.ca_linked.specs.Instances.{IsOfCell}
 use Rattle.ca_linked.proofs.CellLemmas.{gate_within}
 use Rattle.ca_flat.specs.Chip.{Instance, cell_at, count_of, IsChip}
-use Rattle.ca_core.specs.Core.{core_of, core_instance, empty_cell}
-use Rattle.ca_core.proofs.CoreIsChip.{core_is}
-use Rattle.ca_core.proofs.CorePartLemmas.{core_at, part_at}
+use Rattle.ca_view.specs.Core.{core_of, core_instance, empty_cell}
+use Rattle.ca_view.proofs.CoreIsChip.{core_is}
+use Rattle.ca_view.proofs.CorePartLemmas.{core_at, part_at}
 use Rattle.ca_view.specs.Linked.{IsLinked, IsPlaced, IsPlace, IsBare, place_in}
 use Rattle.ca_view.specs.Places.{body_number, part_number, cell_number, AreRanks}
 use Rattle.ca_view.proofs.CoreFacts.{core_count, inputs_are}

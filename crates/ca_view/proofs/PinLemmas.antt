@@ -22,9 +22,9 @@ use Rattle.ca_linked.proofs.OrderLemmas.{contained_at}
 use Rattle.ca_linked.proofs.PartLemmas.{contains_has, of_all, of_list}
 use Rattle.ca_flat.specs.Chip.{Instance, instance_at, inputs_at, outputs_at, net_of, count_of}
 use Rattle.ca_flat.specs.Chip as flat
-use Rattle.ca_core.specs.Core.{core_net, stored_nets, core_instance, core_of}
-use Rattle.ca_core.proofs.CorePartLemmas.{core_at, stored_count, stored_pin, read_count}
-use Rattle.ca_core.proofs.CoreIsChip.{body_of, data_within, data_outside, core_is}
+use Rattle.ca_view.specs.Core.{core_net, stored_nets, core_instance, core_of}
+use Rattle.ca_view.proofs.CorePartLemmas.{core_at, stored_count, stored_pin, read_count}
+use Rattle.ca_view.proofs.CoreIsChip.{body_of, data_within, data_outside, core_is}
 use Rattle.ca_view.specs.NetLists.{ArePinNets}
 use Rattle.ca_view.specs.code.Pins.{items_of, AreBelow, HaveNets, AreInputNets, AreOutputNets, AreCorePins}
 use Rattle.ca_view.specs.code.Pins.{IsInverted}

@@ -22,8 +22,8 @@ use Rattle.ca_linked.specs.Instances.{if_gate, gates_from, gates_of}
 use Rattle.ca_linked.proofs.OrderLemmas.{place_of, contained_at}
 use Rattle.ca_linked.proofs.PartLemmas.{has_contains}
 use Rattle.ca_linked.proofs.CellLemmas.{library_within}
-use Rattle.ca_core.specs.Core.{body_rank, rank_in, rank_of}
-use Rattle.ca_core.proofs.CorePartLemmas.{part_at}
+use Rattle.ca_view.specs.Core.{body_rank, rank_in, rank_of}
+use Rattle.ca_view.proofs.CorePartLemmas.{part_at}
 use Rattle.ca_view.specs.Places.{AreRanks}
 use Rattle.ca_view.proofs.CoreFacts.{core_count}
 use Rattle.ca_view.proofs.PartFacts.{gate_at, some_at}

@@ -10,12 +10,12 @@ use Rattle.ca_linked.specs.declared.parts.Part.{Part}
 use Rattle.ca_linked.specs.Linked.{LinkedChip, net_count, gate_inputs, is_scan_path, IsWired}
 use Rattle.ca_linked.specs.Reading.{AreReadersOf}
 use Rattle.ca_linked.specs.Reading as wired
-use Rattle.ca_core.specs.Core.{core_net, core_of}
-use Rattle.ca_core.proofs.CoreLemmas.{IsOutside, core_less, core_same, length-core_kinds, net_of_number}
-use Rattle.ca_core.proofs.CorePartLemmas.{part_at, read_is_data}
+use Rattle.ca_view.specs.Core.{core_net, core_of}
+use Rattle.ca_view.proofs.CoreLemmas.{IsOutside, core_less, core_same, length-core_kinds, net_of_number}
+use Rattle.ca_view.proofs.CorePartLemmas.{part_at, read_is_data}
 use Rattle.ca_view.specs.Linked.{Reads, AreReaders}
 use Rattle.ca_view.specs.Readers.{row_at, AreFirstRows, AreRows}
-use Rattle.ca_core.proofs.CoreIsChip.{data_outside}
+use Rattle.ca_view.proofs.CoreIsChip.{data_outside}
 use Rattle.ca_view.proofs.CoreFacts.{core_count, inputs_are, input_net_is}
 use Rattle.ca_view.proofs.PartFacts.{some_at}
 

@@ -10,9 +10,9 @@ use Rattle.ca_cell.specs.Raw.{is_input, role_count}
 use Rattle.ca_linked.specs.Linked as linked
 use Rattle.ca_linked.specs.Linked.{inputs_of, IsWired}
 use Rattle.ca_flat.specs.Chip.{Chip, IsCell}
-use Rattle.ca_core.specs.Core.{core_net, core_of, core_constants}
-use Rattle.ca_core.specs.Numbers.{Numbers, AreCoreNumbers}
-use Rattle.ca_core.proofs.CoreIsChip.{core_is}
+use Rattle.ca_view.specs.Core.{core_net, core_of, core_constants}
+use Rattle.ca_view.specs.Numbers.{Numbers, AreCoreNumbers}
+use Rattle.ca_view.proofs.CoreIsChip.{core_is}
 use Rattle.ca_view.specs.declared.constants.FixedNet.{FixedNet}
 use Rattle.ca_view.specs.Linked.{IsLinked, IsPinned, AreReaders, place_in}
 use Rattle.ca_view.specs.NetLists.{NetLists, AreNetsOf}

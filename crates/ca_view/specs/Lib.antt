@@ -1,3 +1,6 @@
+pub mod Core
+pub mod Numbers
+pub mod Laws
 pub mod Linked
 pub mod NetLists
 pub mod Places

@@ -4,7 +4,7 @@ use Rattle.ca_linked.specs.declared.parts.Body.{Body}
 use Rattle.ca_linked.specs.declared.parts.Part.{Part}
 use Rattle.ca_linked.specs.declared.parts.Body.TheVariants.{Gate, Scan}
 use Rattle.ca_linked.specs.Linked.{LinkedChip}
-use Rattle.ca_core.specs.Core.{rank_of}
+use Rattle.ca_view.specs.Core.{rank_of}
 
 -- the place of an instance's cell in the library; 0 for a scan instance
 abbrev pub body_number : Body → ℕ

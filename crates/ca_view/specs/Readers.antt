@@ -2,7 +2,7 @@
 use Rattle.std.specs.Prelude.{ℕ, ◌≡◌, ◌<◌, false, List, [], length, slice_index_or}
 use Rattle.ca_linked.specs.Linked.{LinkedChip, net_count, is_scan_path}
 use Rattle.ca_linked.specs.Reading.{AreReadersOf}
-use Rattle.ca_core.specs.Core.{core_net}
+use Rattle.ca_view.specs.Core.{core_net}
 
 -- the readers of a net of the core
 abbrev pub row_at : List (List ℕ) → ℕ → List ℕ

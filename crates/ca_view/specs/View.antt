@@ -3,7 +3,7 @@ use Rattle.std.specs.Prelude.{ℕ, ◌^◌, ◌≡◌, ◌<◌, List}
 use Rattle.ca_linked.specs.Linked as linked
 use Rattle.ca_flat.specs.Chip.{Chip}
 use Rattle.ca_flat.specs.Pair.{bit_count}
-use Rattle.ca_core.specs.Core.{core_of, core_constants}
+use Rattle.ca_view.specs.Core.{core_of, core_constants}
 use Rattle.ca_view.specs.declared.constants.FixedNet.{FixedNet}
 use Rattle.ca_view.specs.NetLists.{NetLists, AreNetsOf}
 use Rattle.ca_view.specs.Constants.{constants_of}

@@ -2,13 +2,13 @@
 
 ghost use Rattle.std.specs.Prelude.{◌≡◌, ◌<◌, ◌++◌, ◌↔◌, if◌then◌else◌, IsTrue, Some, IfOk, OnOk};
 ghost use Rattle.ca_linked.specs.Linked.{net_count, constant_net};
-ghost use Rattle.ca_core.specs.Core.{trit_of, constant_on, in_net_order, core_constants};
-ghost use Rattle.ca_core.specs.Numbers.{AreCoreNumbers};
+ghost use Rattle.ca_view.specs.Core.{trit_of, constant_on, in_net_order, core_constants};
+ghost use Rattle.ca_view.specs.Numbers.{AreCoreNumbers};
 ghost use Rattle.ca_view.specs.Constants.{constants_of};
 ghost use Rattle.ca_view.specs.code.Constants.{fixed_of};
 
+use crate::nets::CoreNets;
 use ca_base::NoMemory;
-use ca_core::CoreNets;
 use ca_linked::{Chip, NetId};
 use ca_net::Trit;
 use std::alloc::Global;

@@ -2,12 +2,12 @@
 
 ghost use Rattle.std.specs.Prelude.{◌≡◌, ◌<◌, length, IfOk};
 ghost use Rattle.std.specs.List.{All};
-ghost use Rattle.ca_core.specs.Core.{core_of};
-ghost use Rattle.ca_core.specs.Numbers.{AreCoreNumbers};
+ghost use Rattle.ca_view.specs.Core.{core_of};
+ghost use Rattle.ca_view.specs.Numbers.{AreCoreNumbers};
 ghost use Rattle.ca_view.specs.code.Ends.{AreMarked};
 
+use crate::nets::CoreNets;
 use ca_base::NoMemory;
-use ca_core::CoreNets;
 use ca_linked::Chip;
 use std::alloc::Global;
 

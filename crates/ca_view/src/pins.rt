@@ -6,14 +6,14 @@ ghost use Rattle.ca_cell.specs.declared.rule.TheConstants.{MOST_INPUTS, MOST_OUT
 ghost use Rattle.ca_flat.specs.Chip.{inputs_at, outputs_at};
 ghost use Rattle.ca_linked.specs.Linked.{IsLibrary};
 ghost use Rattle.ca_linked.specs.Instances.{IsScan};
-ghost use Rattle.ca_core.specs.Core.{core_of};
-ghost use Rattle.ca_core.specs.Numbers.{AreCoreNumbers};
+ghost use Rattle.ca_view.specs.Core.{core_of};
+ghost use Rattle.ca_view.specs.Numbers.{AreCoreNumbers};
 ghost use Rattle.ca_view.specs.NetLists.{ArePinNets};
 ghost use Rattle.ca_view.specs.code.Pins.{inputs_of, outputs_of, items_of};
 ghost use Rattle.ca_view.specs.code.Pins.{AreCorePins, AreInputNets, AreOutputNets, IsInverted};
 
+use crate::nets::CoreNets;
 use ca_base::NoMemory;
-use ca_core::CoreNets;
 use ca_linked::{Chip, InstanceId, NetId};
 use std::alloc::Global;
 use std::marker::Model;

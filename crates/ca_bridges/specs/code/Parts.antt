@@ -4,7 +4,7 @@ use Rattle.ca_flat.specs.declared.chip_defect.ChipDefect.{ChipDefect}
 use Rattle.ca_flat.specs.Chip.{Chip}
 use Rattle.ca_flat.specs.Codes.{unset_pair}
 use Rattle.ca_linked.specs.Linked.{LinkedChip}
-use Rattle.ca_core.specs.Core.{core_of}
+use Rattle.ca_view.specs.Core.{core_of}
 use Rattle.ca_credit.specs.Defects.{Task, StandsIn}
 use Rattle.ca_credit.specs.Good.{IsGood}
 use Rattle.ca_generate.specs.declared.generated.Generated.{Generated}

@@ -2,10 +2,10 @@
 use Rattle.std.specs.Prelude.{ℕ, List}
 use Rattle.std.proofs.Props.{props}
 use Rattle.ca_net.specs.Circuit.{Circuit}
-use Rattle.ca_defect.specs.declared.defect.Defect.{Defect}
-use Rattle.ca_defect.specs.declared.defect.Defect.TheVariants.{OpenDrain, OpenSource, OpenGate, OpenPin}
-use Rattle.ca_defect.specs.declared.defect.Defect.TheVariants.{Short}
-use Rattle.ca_defect.specs.Defect.{IsDefect}
+use Rattle.ca_cell.specs.declared.defect.Defect.{Defect}
+use Rattle.ca_cell.specs.declared.defect.Defect.TheVariants.{OpenDrain, OpenSource, OpenGate, OpenPin}
+use Rattle.ca_cell.specs.declared.defect.Defect.TheVariants.{Short}
+use Rattle.ca_cell.specs.Defect.{IsDefect}
 use Rattle.ca_flat.specs.declared.chip_defect.ChipDefect.{ChipDefect}
 use Rattle.ca_linked.specs.declared.parts.Body.{Body}
 use Rattle.ca_linked.specs.declared.parts.Body.TheVariants.{Gate, Scan}

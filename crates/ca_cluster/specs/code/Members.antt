@@ -2,7 +2,7 @@
 use Rattle.std.specs.Prelude.{ℕ, ◌≡◌, ◌<◌, ◌↔◌, ◌&&◌, ◌||◌, Bool, true, List, length}
 use Rattle.ca_linked.specs.Linked.{LinkedChip, IsLibrary}
 use Rattle.ca_linked.specs.Paths.{mark_at}
-use Rattle.ca_core.specs.Core.{core_of}
+use Rattle.ca_view.specs.Core.{core_of}
 use Rattle.ca_merged.specs.Members.{IsAtBridge}
 use Rattle.ca_cluster.specs.declared.bridge.Bridge.{Bridge}
 use Rattle.ca_cluster.specs.declared.members.BridgeMarks.{BridgeMarks}

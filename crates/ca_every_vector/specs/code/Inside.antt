@@ -1,6 +1,6 @@
 -- Words of the code: what is kept while regions are tried, and what it is good for.
 use Rattle.std.specs.Prelude.{ℕ, ◌≡◌, Bool, true, List, length, None}
-use Rattle.ca_defect.specs.declared.row.Row.{Row}
+use Rattle.ca_cell.specs.declared.row.Row.{Row}
 use Rattle.ca_net.specs.Circuit.{IsWellFormed}
 use Rattle.ca_flat.specs.Chip.{Chip, count_of}
 use Rattle.ca_flat.specs.Flat.{flat}

@@ -7,7 +7,7 @@ use Rattle.ca_planes.specs.declared.block.Block.{Block}
 use Rattle.ca_planes.specs.declared.trits.Trits.{Trits}
 use Rattle.ca_planes.specs.Plane.{has_lane, lane_at}
 use Rattle.ca_planes.specs.Trits.{HasNodes, state_in, trit_in}
-use Rattle.ca_defect.specs.Row.{digit_value}
+use Rattle.ca_cell.specs.Row.{digit_value}
 use Rattle.ca_flat.specs.Chip.{Chip, inputs_at, outputs_at, output_net}
 use Rattle.ca_flips.specs.Flips.{vector_at}
 use Rattle.ca_flips.specs.Known.{AreKnownLasts}

@@ -3,8 +3,8 @@ use Rattle.std.specs.Prelude.{ℕ, ◌≡◌, ◌<◌, List, length, slice_index
 use Rattle.ca_net.specs.declared.trit.Trit.{Trit}
 use Rattle.ca_net.specs.Circuit.{IsWellFormed}
 use Rattle.ca_net.specs.State.{value_at}
-use Rattle.ca_defect.specs.Row.{vector_of}
-use Rattle.ca_defect.specs.declared.row.Row.{Row}
+use Rattle.ca_cell.specs.Row.{vector_of}
+use Rattle.ca_cell.specs.declared.row.Row.{Row}
 use Rattle.ca_flat.specs.Chip.{Chip, inputs_at, net_of}
 use Rattle.ca_flat.specs.Flat.{flat}
 use Rattle.ca_flat.specs.TwoFrame.{IsVectorOver}

@@ -5,7 +5,7 @@ use Rattle.std.specs.List.{All, Contains}
 use Rattle.ca_net.specs.declared.trit.Trit.{Trit}
 use Rattle.ca_net.specs.declared.trit.Trit.TheVariants.{X}
 use Rattle.ca_net.specs.State.{value_at}
-use Rattle.ca_defect.specs.Row.{digit_value}
+use Rattle.ca_cell.specs.Row.{digit_value}
 use Rattle.ca_flat.specs.Chip.{Chip, outputs_at, output_net, count_of}
 use Rattle.ca_every_vector.specs.code.Fixed.{fixed_value}
 use Rattle.ca_view.specs.Linked.{IsPlaced}

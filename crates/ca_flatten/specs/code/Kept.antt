@@ -7,7 +7,7 @@ use Rattle.ca_flat.specs.declared.chip_defect.ChipDefect.{ChipDefect}
 use Rattle.ca_flat.specs.Chip.{Chip, circuit_at, count_of}
 use Rattle.ca_flat.specs.Flat.{inner_before, place, old_devices, defect_at}
 use Rattle.ca_net.specs.declared.node.NodeKind.{NodeKind}
-use Rattle.ca_core.specs.Core.{kind_of}
+use Rattle.ca_view.specs.Core.{kind_of}
 use Rattle.ca_flatten.specs.declared.sizes.Sizes.{Sizes}
 use Rattle.ca_flatten.specs.declared.spots.Spot.{Spot}
 use Rattle.ca_flatten.specs.Few.{IsFew}

@@ -1,6 +1,6 @@
 -- What only proofs of code cite: which vectors the values of an instance's input pins allow.
 use Rattle.std.specs.Prelude.{ℕ, Bool, false, ◌&&◌, ◌==◌, if◌then◌else◌, List, [], ◌∷◌, ◌++◌, map, get_or}
-use Rattle.ca_defect.specs.declared.row.Row.{Row}
+use Rattle.ca_cell.specs.declared.row.Row.{Row}
 use Rattle.ca_lanes.specs.declared.plane.Plane.{Plane}
 use Rattle.ca_lanes.specs.Plane.{lane_of}
 use Rattle.ca_lanes.specs.Choice.{Choice}

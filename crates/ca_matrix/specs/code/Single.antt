@@ -5,10 +5,10 @@ use Rattle.ca_net.specs.declared.wave.Wave.{Wave}
 use Rattle.ca_net.specs.Circuit.{Circuit}
 use Rattle.ca_cell.specs.declared.raw.RawCell.{RawCell}
 use Rattle.ca_cell.specs.Raw.{is_input, role_count}
-use Rattle.ca_defect.specs.declared.defect.Defect.{Defect}
-use Rattle.ca_defect.specs.declared.row.Row.{Row}
-use Rattle.ca_defect.specs.Row.{vector_of}
-use Rattle.ca_defect.specs.Exposes.{opposite_of, IsExposingRow}
+use Rattle.ca_cell.specs.declared.defect.Defect.{Defect}
+use Rattle.ca_cell.specs.declared.row.Row.{Row}
+use Rattle.ca_cell.specs.Row.{vector_of}
+use Rattle.ca_cell.specs.Exposes.{opposite_of, IsExposingRow}
 use Rattle.ca_response.specs.Outputs.{AreEndsOf}
 
 -- the number of a row, where there are this many vectors

@@ -6,7 +6,7 @@ use Rattle.ca_cell.specs.Rules.{node_count}
 use Rattle.ca_flat.specs.Flat.{inner_count}
 use Rattle.ca_linked.specs.Linked.{LinkedChip}
 use Rattle.ca_linked.specs.Paths.{mark_at}
-use Rattle.ca_core.specs.Core.{core_of}
+use Rattle.ca_view.specs.Core.{core_of}
 use Rattle.ca_merged.specs.Blocks.{block_start}
 use Rattle.ca_merged.specs.Cluster.{cluster_cell}
 use Rattle.ca_merged.specs.Merged.{AreMembers}

@@ -1,7 +1,7 @@
 -- Why a text has no patterns of a chip, and why patterns are wrong. Private functions and proofs cite this.
 use Rattle.std.specs.Prelude.{◌≡◌, ◌⊎◌, ℕ, List}
 use Rattle.ca_linked.specs.Linked.{LinkedChip}
-use Rattle.ca_core.specs.Core.{core_of}
+use Rattle.ca_view.specs.Core.{core_of}
 use Rattle.ca_expected.specs.declared.wrong.WrongValue.{WrongValue}
 use Rattle.ca_expected.specs.Wrong.{IsFirstWrong}
 use Rattle.ca_stil_pairs.specs.declared.file.StilFile.{StilFile}

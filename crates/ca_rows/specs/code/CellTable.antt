@@ -1,8 +1,8 @@
 -- Words of the code beside those of `specs/CellTable.antt`. Private functions and proofs cite them.
 use Rattle.std.specs.Prelude.{ℕ, ◌≡◌, ◌<◌, List, [], length, Some, slice_get, slice_index_or}
-use Rattle.ca_defect.specs.declared.defect.Defect.{Defect}
-use Rattle.ca_defect.specs.declared.row.Row.{Row}
-use Rattle.ca_defect.specs.List.{defects_of}
+use Rattle.ca_cell.specs.declared.defect.Defect.{Defect}
+use Rattle.ca_cell.specs.declared.row.Row.{Row}
+use Rattle.ca_cell.specs.List.{defects_of}
 use Rattle.ca_matrix.specs.Matrix.{Entries}
 use Rattle.ca_matrix.specs.Showing.{ListsExposing}
 use Rattle.ca_rows.specs.CellTable.{ListsRows, CellTable}

@@ -7,7 +7,7 @@ use Rattle.ca_net.specs.State.{value_at}
 use Rattle.ca_table.specs.Gives.{wave_at}
 use Rattle.ca_flat.specs.declared.chip_defect.ChipDefect.{ChipDefect}
 use Rattle.ca_linked.specs.Linked.{IsWired}
-use Rattle.ca_core.specs.Core.{core_of}
+use Rattle.ca_view.specs.Core.{core_of}
 use Rattle.ca_flatten.specs.Few.{IsFew}
 use Rattle.ca_view.specs.Places.{AreRanks}
 use Rattle.ca_view.specs.View.{Viewed}

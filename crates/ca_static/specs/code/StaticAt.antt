@@ -4,7 +4,7 @@ use Rattle.ca_net.specs.declared.trit.Trit.TheVariants.{X}
 use Rattle.ca_net.specs.declared.wave.Wave.{Wave}
 use Rattle.ca_cell.specs.declared.raw.RawCell.{RawCell}
 use Rattle.ca_cell.specs.Raw.{is_input, is_output, role_count}
-use Rattle.ca_defect.specs.Row.{vector_of}
+use Rattle.ca_cell.specs.Row.{vector_of}
 use Rattle.ca_response.specs.Outputs.{pairs_of}
 use Rattle.ca_flips.specs.Static.{LastEnd}
 

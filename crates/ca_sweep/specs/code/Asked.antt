@@ -4,7 +4,7 @@ use Rattle.std.specs.List.{All}
 use Rattle.ca_net.specs.declared.trit.Trit.{Trit}
 use Rattle.ca_net.specs.Circuit.{IsWellFormed}
 use Rattle.ca_net.specs.State.{value_at}
-use Rattle.ca_defect.specs.List.{defects_of}
+use Rattle.ca_cell.specs.List.{defects_of}
 use Rattle.ca_flat.specs.declared.chip_defect.ChipDefect.{ChipDefect}
 use Rattle.ca_flat.specs.Chip.{cell_at}
 use Rattle.ca_flat.specs.Flat.{flat}

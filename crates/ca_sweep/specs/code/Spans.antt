@@ -3,7 +3,7 @@ use Rattle.std.specs.Prelude.{ℕ, zero, suc, ◌+◌, ◌≡◌, ◌<◌, ◌�
 use Rattle.std.specs.Prelude.{length, slice_get, slice_index_or, Some}
 use Rattle.ca_flat.specs.declared.chip_defect.ChipDefect.{ChipDefect}
 use Rattle.ca_sweep.specs.declared.spans.Span.{Span}
-use Rattle.ca_defect.specs.declared.defect.Defect.{Defect}
+use Rattle.ca_cell.specs.declared.defect.Defect.{Defect}
 use Rattle.ca_flat.specs.Chip.{Chip, cell_at}
 use Rattle.ca_sweep.specs.Spans.{AreOfInstance, AreOfCell}
 

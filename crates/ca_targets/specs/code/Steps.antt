@@ -4,7 +4,7 @@ use Rattle.std.specs.List.{All}
 use Rattle.ca_cell.specs.Rules.{KeepsRules}
 use Rattle.ca_flat.specs.declared.chip_defect.ChipDefect.{ChipDefect}
 use Rattle.ca_linked.specs.Linked.{LinkedChip}
-use Rattle.ca_core.specs.Core.{core_of}
+use Rattle.ca_view.specs.Core.{core_of}
 use Rattle.ca_flatten.specs.Few.{IsFew}
 use Rattle.ca_merged.specs.Cluster.{cluster_cell}
 use Rattle.ca_merge.specs.Merge.{IsMergedOf}

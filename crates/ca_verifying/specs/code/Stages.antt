@@ -2,7 +2,7 @@
 use Rattle.std.specs.Prelude.{◌≡◌, ◌≢◌, ◌⊎◌, ℕ, List, length, Option}
 use Rattle.ca_store.specs.Store.{Files}
 use Rattle.ca_linked.specs.Linked.{LinkedChip}
-use Rattle.ca_core.specs.Core.{core_of}
+use Rattle.ca_view.specs.Core.{core_of}
 use Rattle.ca_expected.specs.Expected.{AreExpected}
 use Rattle.ca_claim.specs.declared.certificate.Certificate.{Certificate}
 use Rattle.ca_chip_cert.specs.Listed.{listed_defects}

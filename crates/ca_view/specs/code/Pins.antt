@@ -5,7 +5,7 @@ use Rattle.std.specs.Global.{Global}
 use Rattle.std.specs.List.{All}
 use Rattle.ca_linked.specs.Linked as linked
 use Rattle.ca_flat.specs.Chip.{Chip, inputs_at, outputs_at, count_of}
-use Rattle.ca_core.specs.Core.{stored_nets}
+use Rattle.ca_view.specs.Core.{stored_nets}
 use Rattle.ca_view.specs.NetLists.{ArePinNets}
 use Rattle.ca_view.specs.Pins.{Pins}
 

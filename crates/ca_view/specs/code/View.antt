@@ -2,7 +2,7 @@
 use Rattle.std.specs.Prelude.{ℕ, ◌^◌, ◌≡◌, ◌<◌, List, Bool, length}
 use Rattle.std.specs.List.{All}
 use Rattle.ca_linked.specs.Linked as linked
-use Rattle.ca_core.specs.Core.{core_of}
+use Rattle.ca_view.specs.Core.{core_of}
 use Rattle.ca_view.specs.declared.constants.FixedNet.{FixedNet}
 use Rattle.ca_view.specs.Pins.{Pins}
 use Rattle.ca_view.specs.code.Pins.{ArePinsOf}

@@ -2,7 +2,7 @@ use Rattle.std.proofs.Common.{◌≡◌, length, sym, subst}
 use Rattle.std.specs.List.{All}
 use Rattle.ca_linked.specs.Linked.{LinkedChip}
 use Rattle.ca_flat.specs.Pair.{bit_count}
-use Rattle.ca_core.specs.Core.{core_of}
+use Rattle.ca_view.specs.Core.{core_of}
 use Rattle.ca_atpg.proofs.AtpgLemmas.{task_pairs_fit, verdicts_within}
 use Rattle.ca_atpg.proofs.generation.texts_of.Goals as goal
 

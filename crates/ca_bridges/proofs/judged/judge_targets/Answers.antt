@@ -1,6 +1,6 @@
 use Rattle.std.proofs.Common.{◌≤◌, ◌∙◌, List, length, sym, subst, arith}
 use Rattle.std.specs.List.{All}
-use Rattle.ca_core.specs.Core.{rank_of}
+use Rattle.ca_view.specs.Core.{rank_of}
 use Rattle.ca_targets.specs.declared.target.Cluster.{Cluster}
 use Rattle.ca_credit.specs.declared.limit.TheConstants.{MOST_PAIRS}
 use Rattle.ca_bridges.specs.Numbers.{IsFound, IsStationOf, AreNumbered}

@@ -9,7 +9,7 @@ use Rattle.std.proofs.lemmas.List.Elements.{All-get_or}
 use Rattle.std.proofs.lemmas.Option.{get_or_from_slice_get}
 use Rattle.ca_flat.specs.Chip.{Chip}
 use Rattle.ca_linked.specs.Linked.{LinkedChip}
-use Rattle.ca_core.specs.Core.{core_of}
+use Rattle.ca_view.specs.Core.{core_of}
 use Rattle.ca_targets.specs.declared.target.Cluster.{Cluster}
 use Rattle.ca_targets.specs.Targets.{IsLibraryDefect}
 use Rattle.ca_bridges.specs.code.Parts.{IsPartOf}

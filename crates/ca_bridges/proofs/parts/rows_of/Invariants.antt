@@ -1,5 +1,5 @@
 use Rattle.std.proofs.Common.{◌≡◌}
-use Rattle.ca_core.specs.Core.{core_of}
+use Rattle.ca_view.specs.Core.{core_of}
 use Rattle.ca_bridges.specs.code.Parts.{AreEach}
 use Rattle.ca_bridges.proofs.parts.rows_of.Given as goal
 

@@ -1,7 +1,7 @@
 use Rattle.std.proofs.Common.{Option, subst}
 use Rattle.ca_flat.specs.declared.chip_defect.ChipDefect.{ChipDefect}
 use Rattle.ca_linked.specs.Linked.{LinkedChip}
-use Rattle.ca_core.specs.Core.{core_of}
+use Rattle.ca_view.specs.Core.{core_of}
 use Rattle.ca_flatten.specs.Few.{IsFew}
 use Rattle.ca_judge.specs.ChipJudge.{CanBeJudged}
 use Rattle.ca_certify.specs.Verdicts.{viewed_task}

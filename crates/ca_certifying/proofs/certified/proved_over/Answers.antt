@@ -1,7 +1,7 @@
 use Rattle.std.proofs.Common.{ℕ, ◌≡◌, refl, sym, ap, subst}
 use Rattle.ca_flat.specs.Chip.{Chip}
 use Rattle.ca_linked.specs.Instances.{gates_of}
-use Rattle.ca_core.specs.Core.{core_of}
+use Rattle.ca_view.specs.Core.{core_of}
 use Rattle.ca_view.specs.View.{Viewed}
 use Rattle.ca_credit.specs.Defects.{Task}
 use Rattle.ca_credit.specs.Good.{IsGood}

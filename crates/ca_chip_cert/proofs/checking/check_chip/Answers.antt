@@ -4,7 +4,7 @@ use Rattle.ca_flat.specs.declared.chip_defect.ChipDefect.{ChipDefect}
 use Rattle.ca_flat.specs.Chip.{Chip}
 use Rattle.ca_flat.specs.Pair.{bit_count}
 use Rattle.ca_linked.specs.Instances.{gates_of}
-use Rattle.ca_core.specs.Core.{core_of}
+use Rattle.ca_view.specs.Core.{core_of}
 use Rattle.ca_chip_defects.specs.ChipDefects.{chip_defects}
 use Rattle.ca_claim.specs.Stands.{IsAnswer}
 use Rattle.ca_claim.specs.Laws.{IsYesTrue}

@@ -2,7 +2,7 @@ use Rattle.std.proofs.Common.{◌≡◌, Bool, List, length, subst, sym}
 use Rattle.std.specs.List.{All}
 use Rattle.ca_net.specs.declared.trit.Trit.{Trit}
 use Rattle.ca_linked.specs.Linked.{LinkedChip}
-use Rattle.ca_core.specs.Core.{core_of}
+use Rattle.ca_view.specs.Core.{core_of}
 use Rattle.ca_flat.specs.Pair.{bit_count}
 use Rattle.ca_chip_grade.proofs.FitLemmas.{bits_fit, values_fit}
 use Rattle.ca_chip_grade.proofs.judge.judge_chip.Goals as goal

@@ -1,6 +1,6 @@
 use Rattle.std.proofs.Common.{◌++◌, ◌∙◌, ap}
 use Rattle.ca_lex.specs.Words.{upper_case}
-use Rattle.ca_defect.proofs.NameLemmas.{name_is_found}
+use Rattle.ca_cell.proofs.NameLemmas.{name_is_found}
 use Rattle.ca_cluster.proofs.bridge.put_node.Goals as goal
 
 pub returns : goal.returns

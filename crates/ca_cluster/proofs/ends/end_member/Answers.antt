@@ -2,7 +2,7 @@ use Rattle.std.proofs.Common.{◌≡◌, ◌-◌, ap, ◌∙◌, arith}
 use Rattle.ca_cell.specs.declared.raw.RawCell.{RawCell}
 use Rattle.ca_cell.specs.Raw.{is_input, role_count}
 use Rattle.ca_flat.specs.Chip.{inputs_at}
-use Rattle.ca_core.specs.Core.{core_of}
+use Rattle.ca_view.specs.Core.{core_of}
 use Rattle.ca_view.proofs.PartFacts.{pin_within, pin_on_net}
 use Rattle.ca_cluster.proofs.EndLemmas.{rail_makes, pin_makes, past_makes}
 use Rattle.ca_cluster.proofs.ends.end_member.Goals as goal

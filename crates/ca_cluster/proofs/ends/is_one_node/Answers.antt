@@ -2,7 +2,7 @@ use Rattle.std.proofs.Common.{◌≡◌, ◌-◌, ap, ◌∙◌, arith}
 use Rattle.ca_cell.specs.declared.raw.RawCell.{RawCell}
 use Rattle.ca_cell.specs.Raw.{is_input, is_output, role_count}
 use Rattle.ca_flat.specs.Chip.{inputs_at, outputs_at}
-use Rattle.ca_core.specs.Core.{core_of}
+use Rattle.ca_view.specs.Core.{core_of}
 use Rattle.ca_view.proofs.PartFacts.{pin_within}
 use Rattle.ca_cluster.proofs.EndLemmas.{rail_apart, inner_apart, pins_one, eqb_says}
 use Rattle.ca_cluster.proofs.ends.is_one_node.Goals as goal

@@ -2,7 +2,7 @@ use Rattle.std.proofs.Common.{◌≡◌, ◌-◌, ap, ◌∙◌, arith}
 use Rattle.ca_cell.specs.declared.raw.RawCell.{RawCell}
 use Rattle.ca_cell.specs.Raw.{is_input, role_count}
 use Rattle.ca_flat.specs.Chip.{inputs_at}
-use Rattle.ca_core.specs.Core.{core_of}
+use Rattle.ca_view.specs.Core.{core_of}
 use Rattle.ca_view.proofs.PartFacts.{pin_within, pin_on_net}
 use Rattle.ca_cluster.proofs.EndLemmas.{rail_no_port, past_no_port, pin_no_port, pin_port}
 use Rattle.ca_cluster.proofs.ends.is_port_end.Goals as goal

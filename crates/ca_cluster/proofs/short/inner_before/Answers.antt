@@ -1,6 +1,6 @@
 use Rattle.std.proofs.Common.{◌<◌, subst, arith}
 use Rattle.ca_flat.specs.Flat.{inner_count}
-use Rattle.ca_core.specs.Core.{core_of}
+use Rattle.ca_view.specs.Core.{core_of}
 use Rattle.ca_merge.proofs.SizeLemmas.{members_few}
 use Rattle.ca_cluster.proofs.ShortLemmas.{start_here, start_later, start_none, library_at}
 use Rattle.ca_cluster.proofs.short.inner_before.Goals as goal

@@ -6,7 +6,7 @@ use Rattle.ca_linked.specs.Linked as linked
 use Rattle.ca_linked.specs.Instances.{gates_of}
 use Rattle.ca_flat.specs.declared.chip_defect.ChipDefect.{ChipDefect}
 use Rattle.ca_flat.specs.Chip.{Chip, IsDefectIn}
-use Rattle.ca_core.specs.Core.{core_of}
+use Rattle.ca_view.specs.Core.{core_of}
 use Rattle.ca_flatten.specs.Few.{IsFew}
 use Rattle.ca_judge.specs.ChipJudge.{CanBeJudged}
 use Rattle.ca_engine.specs.ChipDefects.{chip_defects}

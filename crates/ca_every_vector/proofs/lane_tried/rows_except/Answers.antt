@@ -2,7 +2,7 @@ use Rattle.std.proofs.Common.{ℕ, ◌<◌, ◌∙◌, false, not, inl, inr, sym
 use Rattle.std.proofs.lemmas.Bool.{cases_eq}
 use Rattle.ca_net.specs.State.{value_at}
 use Rattle.ca_net.specs.Trit.{IsBelow}
-use Rattle.ca_defect.specs.Row.{vector_of}
+use Rattle.ca_cell.specs.Row.{vector_of}
 use Rattle.ca_flat.specs.Chip.{inputs_at, net_of}
 use Rattle.ca_planes.specs.Plane.{has_lane}
 use Rattle.ca_every_vector.specs.Possible.{Has}

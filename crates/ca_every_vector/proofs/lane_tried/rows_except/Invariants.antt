@@ -1,7 +1,7 @@
 use Rattle.std.proofs.Common.{ℕ, ◌≡◌, ◌<◌, ◌⊎◌, true}
 use Rattle.ca_net.specs.State.{value_at}
 use Rattle.ca_net.specs.Trit.{IsBelow}
-use Rattle.ca_defect.specs.Row.{vector_of}
+use Rattle.ca_cell.specs.Row.{vector_of}
 use Rattle.ca_flat.specs.Chip.{inputs_at, net_of}
 use Rattle.ca_planes.specs.Plane.{has_lane}
 use Rattle.ca_every_vector.specs.Possible.{Has}

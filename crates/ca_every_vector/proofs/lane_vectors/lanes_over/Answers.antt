@@ -1,7 +1,7 @@
 use Rattle.std.proofs.Common.{◌≡◌, ◌<◌, ◌∙◌, sym, ap, subst, arith}
 use Rattle.ca_net.specs.State.{value_at}
 use Rattle.ca_net.specs.Trit.{IsBelow}
-use Rattle.ca_defect.specs.Row.{vector_of}
+use Rattle.ca_cell.specs.Row.{vector_of}
 use Rattle.ca_flat.specs.Chip.{inputs_at, net_of}
 use Rattle.ca_planes.specs.Trits.{trit_in}
 use Rattle.ca_planes.proofs.BitLemmas.{in_all}

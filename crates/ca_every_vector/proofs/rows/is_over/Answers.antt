@@ -3,7 +3,7 @@ use Rattle.ca_net.specs.State.{value_at}
 use Rattle.ca_net.specs.Trit.{IsBelow}
 use Rattle.ca_cell.specs.Raw.{is_input, role_count}
 use Rattle.ca_cell.specs.declared.raw.RawCell.{RawCell}
-use Rattle.ca_defect.specs.Row.{vector_of}
+use Rattle.ca_cell.specs.Row.{vector_of}
 use Rattle.ca_flat.specs.Chip.{inputs_at, net_of}
 use Rattle.ca_every_vector.proofs.VectorLemmas.{digit_here}
 use Rattle.ca_every_vector.proofs.rows.is_over.Goals as goal

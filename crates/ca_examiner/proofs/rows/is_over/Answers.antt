@@ -1,5 +1,5 @@
 use Rattle.std.proofs.Common.{◌≡◌, ◌-◌, ◌/◌, ◌%◌, ◌^◌, ◌∙◌, sym, ap, true, false, arith}
-use Rattle.ca_defect.specs.Row.{digit_value}
+use Rattle.ca_cell.specs.Row.{digit_value}
 use Rattle.ca_table.specs.Gives.{wave_at}
 use Rattle.ca_flat.specs.Chip.{inputs_at, net_of}
 use Rattle.ca_examiner.proofs.RowLemmas.{over_more, not_over}

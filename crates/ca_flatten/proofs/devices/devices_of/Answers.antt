@@ -1,7 +1,7 @@
 use Rattle.std.proofs.Common.{◌∙◌, arith}
 use Rattle.ca_flat.specs.Flat.{inner_before}
 use Rattle.ca_flat.proofs.Places.{inner_step}
-use Rattle.ca_core.specs.Core.{core_of}
+use Rattle.ca_view.specs.Core.{core_of}
 use Rattle.ca_flatten.proofs.SizeLemmas.{inner_fits, sizes_fit}
 use Rattle.ca_flatten.proofs.ListLemmas.{no_devices, next_devices}
 use Rattle.ca_flatten.proofs.devices.devices_of.Goals as goal

@@ -1,9 +1,9 @@
 use Rattle.std.proofs.Common.{◌≡◌, ◌∙◌, ◌+◌, sym, ap, arith}
 use Rattle.std.specs.Prelude.{Some, length, slice_get}
 use Rattle.ca_cell.specs.Raw.{circuit_of}
-use Rattle.ca_defect.specs.Defect.{device_with}
+use Rattle.ca_cell.specs.Defect.{device_with}
 use Rattle.ca_flat.specs.Flat.{old_devices}
-use Rattle.ca_defect.proofs.CircuitWithLemmas.{slice_get-changed_from}
+use Rattle.ca_cell.proofs.CircuitWithLemmas.{slice_get-changed_from}
 use Rattle.ca_flatten.proofs.devices.old_device.Goals as goal
 
 pub returns-in-Some : goal.returns-in-Some

@@ -1,7 +1,7 @@
 use Rattle.std.proofs.Common.{◌∙◌, ◌≤◌, ◌∷◌, [], ◌++◌, length, ap, subst}
 use Rattle.ca_cell.specs.declared.raw.RawCell.{RawCell}
 use Rattle.ca_cell.specs.Raw.{circuit_of}
-use Rattle.ca_core.specs.Core.{core_of}
+use Rattle.ca_view.specs.Core.{core_of}
 use Rattle.ca_flatten.proofs.GateLemmas.{library_known}
 use Rattle.ca_flatten.proofs.SizeLemmas.{device_named}
 use Rattle.ca_flatten.proofs.ListLemmas.{device_at, more_devices, whole_devices}

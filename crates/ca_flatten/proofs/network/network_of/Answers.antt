@@ -7,7 +7,7 @@ use Rattle.ca_net.specs.Circuit.{HasSize, HasStrength, NamesWithin}
 use Rattle.ca_net.specs.NetFault.{IsCause}
 use Rattle.ca_net.specs.declared.flat_net.NetFault.{NetFault}
 use Rattle.ca_flat.specs.Flat.{flat}
-use Rattle.ca_core.specs.Core.{core_of}
+use Rattle.ca_view.specs.Core.{core_of}
 use Rattle.ca_flatten.proofs.NetworkLemmas.{none_past, formed, gates_are_drains}
 use Rattle.ca_flatten.proofs.network.network_of.Goals as goal
 

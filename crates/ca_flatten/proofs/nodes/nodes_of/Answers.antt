@@ -1,5 +1,5 @@
 use Rattle.std.proofs.Common.{arith}
-use Rattle.ca_core.specs.Core.{core_of}
+use Rattle.ca_view.specs.Core.{core_of}
 use Rattle.ca_flatten.proofs.SizeLemmas.{sizes_fit}
 use Rattle.ca_flatten.proofs.nodes.nodes_of.Goals as goal
 

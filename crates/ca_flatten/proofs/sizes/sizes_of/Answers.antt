@@ -1,5 +1,5 @@
 use Rattle.std.proofs.Common.{arith}
-use Rattle.ca_core.specs.Core.{core_of}
+use Rattle.ca_view.specs.Core.{core_of}
 use Rattle.ca_flatten.proofs.SizeLemmas.{none_counted, counted_more, all_sizes}
 use Rattle.ca_flatten.proofs.sizes.sizes_of.Goals as goal
 

@@ -4,8 +4,8 @@ use Rattle.ca_cell.specs.Raw.{is_input, is_output, role_count, circuit_of}
 use Rattle.ca_flat.specs.Chip.{circuit_at}
 use Rattle.ca_flat.proofs.Places.{place_rail}
 use Rattle.ca_flat.proofs.Spots.{shape}
-use Rattle.ca_core.specs.Core.{core_of, rank_of}
-use Rattle.ca_core.proofs.CoreIsChip.{core_is}
+use Rattle.ca_view.specs.Core.{core_of, rank_of}
+use Rattle.ca_view.proofs.CoreIsChip.{core_is}
 use Rattle.ca_flatten.proofs.GateLemmas.{library_known}
 use Rattle.ca_flatten.proofs.SizeLemmas.{core_count, place_fits}
 use Rattle.ca_flatten.proofs.PlaceLemmas.{on_pin, on_inner, on_new}

@@ -1,7 +1,7 @@
 use Rattle.std.proofs.Common.{◌≡◌, ◌+◌, arith, refl}
 use Rattle.ca_flat.specs.Flat.{inner_before}
 use Rattle.ca_flat.proofs.Places.{inner_step}
-use Rattle.ca_core.specs.Core.{core_of}
+use Rattle.ca_view.specs.Core.{core_of}
 use Rattle.ca_flatten.proofs.SizeLemmas.{inner_fits}
 use Rattle.ca_flatten.proofs.spots.inner_before.Goals as goal
 

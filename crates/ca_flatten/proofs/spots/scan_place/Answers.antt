@@ -1,7 +1,7 @@
 use Rattle.std.proofs.Common.{◌≡◌, ◌∙◌, ◌+◌, sym, ap, arith}
 use Rattle.ca_flat.specs.Flat.{outer_count}
 use Rattle.ca_flat.proofs.Places.{place_rail, place_pin}
-use Rattle.ca_core.specs.Core.{core_of}
+use Rattle.ca_view.specs.Core.{core_of}
 use Rattle.ca_flatten.proofs.ScanLemmas.{scan_at, node_is_two, node_is_inverting, inverted_at, inverted_outer}
 use Rattle.ca_flatten.proofs.spots.scan_place.Goals as goal
 

@@ -1,9 +1,9 @@
 use Rattle.std.proofs.Common.{◌≡◌, ◌+◌, ◌-◌, ◌*◌, ◌/◌, ◌%◌, ◌^◌, ◌<◌, ◌∙◌, length, min, sym, ap, subst, arith}
 use Rattle.ca_cell.specs.declared.raw.RawCell.{RawCell}
 use Rattle.ca_cell.specs.Raw.{is_input, is_output, role_count, circuit_of}
-use Rattle.ca_defect.specs.declared.row.Row.{Row}
-use Rattle.ca_defect.specs.List.{faulty_of}
-use Rattle.ca_defect.specs.Exposes.{IsExposingRow}
+use Rattle.ca_cell.specs.declared.row.Row.{Row}
+use Rattle.ca_cell.specs.List.{faulty_of}
+use Rattle.ca_cell.specs.Exposes.{IsExposingRow}
 use Rattle.ca_row_block.specs.Rows.{HoldsRow}
 use Rattle.ca_matrix.specs.code.Filled.{row_at, row_count}
 use Rattle.ca_matrix.specs.code.Single.{AreFound, AreRowEnds, row_number}

@@ -1,5 +1,5 @@
 use Rattle.ca_cell.specs.Raw.{circuit_of}
-use Rattle.ca_defect.specs.List.{faulty_of}
+use Rattle.ca_cell.specs.List.{faulty_of}
 use Rattle.ca_row_block.specs.Room.{HoldsCellNet}
 use Rattle.ca_matrix.specs.code.Filled.{block_end}
 use Rattle.ca_matrix.specs.code.Single.{AreFound}

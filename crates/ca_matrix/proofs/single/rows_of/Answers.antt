@@ -1,7 +1,7 @@
 use Rattle.std.proofs.Common.{refl, sym, subst}
 use Rattle.std.specs.Prelude.{IsSome, IsNone}
-use Rattle.ca_defect.specs.declared.overlay.Overlay.{Overlay}
-use Rattle.ca_defect.specs.List.{faulty_of}
+use Rattle.ca_cell.specs.declared.overlay.Overlay.{Overlay}
+use Rattle.ca_cell.specs.List.{faulty_of}
 use Rattle.ca_matrix.specs.code.Rooms.{HasRoomFor}
 use Rattle.ca_matrix.proofs.single.rows_of.Goals as goal
 

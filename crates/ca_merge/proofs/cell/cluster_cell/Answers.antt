@@ -1,6 +1,6 @@
 use Rattle.std.proofs.Common.{◌≤◌, ◌∙◌, sym, subst}
 use Rattle.ca_cell.specs.declared.rule.TheConstants.{MOST_DEVICES}
-use Rattle.ca_core.specs.Core.{core_of}
+use Rattle.ca_view.specs.Core.{core_of}
 use Rattle.ca_merge.proofs.SizeLemmas.{devices_counted, many_devices, many_nodes}
 use Rattle.ca_merge.proofs.cell.cluster_cell.Goals as goal
 

@@ -1,5 +1,5 @@
 use Rattle.std.proofs.Common.{◌∙◌}
-use Rattle.ca_core.specs.Core.{core_of}
+use Rattle.ca_view.specs.Core.{core_of}
 use Rattle.ca_merge.proofs.SeatLemmas.{inputs_counted, outputs_counted}
 use Rattle.ca_merge.proofs.SizeLemmas.{raw_is}
 use Rattle.ca_merge.proofs.cell.raw_cell.Goals as goal

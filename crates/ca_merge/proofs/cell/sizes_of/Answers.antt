@@ -4,7 +4,7 @@ use Rattle.ca_cell.specs.declared.raw.RawCell.{RawCell}
 use Rattle.ca_cell.specs.Raw.{device_of}
 use Rattle.ca_flat.specs.Chip.{cell_at}
 use Rattle.ca_flat.specs.Flat.{inner_count}
-use Rattle.ca_core.specs.Core.{core_of}
+use Rattle.ca_view.specs.Core.{core_of}
 use Rattle.ca_merge.proofs.SeatLemmas.{cell_here}
 use Rattle.ca_merge.proofs.DeviceLemmas.{inner_same}
 use Rattle.ca_merge.proofs.SizeLemmas.{members_few, devices_few, inner_few, sum_step}

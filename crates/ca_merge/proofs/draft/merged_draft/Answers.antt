@@ -1,6 +1,6 @@
 use Rattle.std.proofs.Common.{◌∙◌, map}
 use Rattle.ca_cell.specs.Library.{Named, raw_of}
-use Rattle.ca_core.specs.Core.{core_of}
+use Rattle.ca_view.specs.Core.{core_of}
 use Rattle.ca_merged.specs.Cluster.{cluster_cell}
 use Rattle.ca_merge.proofs.MergeLemmas.{draft_is, one_cell_more}
 use Rattle.ca_merge.proofs.draft.merged_draft.Goals as goal

@@ -1,6 +1,6 @@
 use Rattle.std.proofs.Common.{◌≡◌, ◌+◌, ◌<◌, ◌∙◌, ap, sym, subst, arith}
 use Rattle.ca_flat.specs.Flat.{inner_count}
-use Rattle.ca_core.specs.Core.{core_of}
+use Rattle.ca_view.specs.Core.{core_of}
 use Rattle.ca_merge.proofs.SeatLemmas.{cell_same}
 use Rattle.ca_merge.proofs.DeviceLemmas.{in_hand, start_more, start_few, devices_more, inner_same}
 use Rattle.ca_merge.proofs.seats.devices_of.Goals as goal

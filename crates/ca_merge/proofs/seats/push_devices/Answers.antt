@@ -3,7 +3,7 @@ use Rattle.std.proofs.lemmas.List.{length-map, take_all}
 use Rattle.ca_cell.specs.Raw.{device_of}
 use Rattle.ca_cell.specs.declared.raw.RawCell.{RawCell}
 use Rattle.ca_flat.specs.Chip.{cell_at}
-use Rattle.ca_core.specs.Core.{core_of}
+use Rattle.ca_view.specs.Core.{core_of}
 use Rattle.ca_merged.specs.Cluster.{seated}
 use Rattle.ca_merge.proofs.SeatLemmas.{cell_same}
 use Rattle.ca_merge.proofs.DeviceLemmas.{seated_more}

@@ -1,6 +1,6 @@
 use Rattle.std.proofs.Common.{◌≡◌, ◌++◌, map, take}
 use Rattle.ca_flat.specs.Chip.{cell_at}
-use Rattle.ca_core.specs.Core.{core_of}
+use Rattle.ca_view.specs.Core.{core_of}
 use Rattle.ca_merged.specs.Cluster.{seated}
 use Rattle.ca_merge.proofs.seats.push_devices.Given as goal
 

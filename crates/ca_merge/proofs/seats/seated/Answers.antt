@@ -1,7 +1,7 @@
 use Rattle.std.proofs.Common.{◌≡◌, ◌<◌, ◌∙◌, ap, subst, length, get_or}
 use Rattle.ca_cell.specs.declared.raw.RawCell.{RawCell}
 use Rattle.ca_flat.specs.Chip.{cell_at}
-use Rattle.ca_core.specs.Core.{core_of}
+use Rattle.ca_view.specs.Core.{core_of}
 use Rattle.ca_merge.proofs.SeatLemmas.{cell_same}
 use Rattle.ca_merge.proofs.DeviceLemmas.{terminals, node_within, seated_is}
 use Rattle.ca_merge.proofs.seats.seated.Goals as goal

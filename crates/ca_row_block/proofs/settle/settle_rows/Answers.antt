@@ -4,8 +4,8 @@ use Rattle.ca_planes.specs.declared.block.Block.{Block}
 use Rattle.ca_planes.specs.Trits.{state_in}
 use Rattle.ca_cell.specs.declared.raw.RawCell.{RawCell}
 use Rattle.ca_cell.specs.Raw.{is_input, role_count}
-use Rattle.ca_defect.specs.Exposes.{pin_vector}
-use Rattle.ca_defect.specs.Row.{vector_of}
+use Rattle.ca_cell.specs.Exposes.{pin_vector}
+use Rattle.ca_cell.specs.Row.{vector_of}
 use Rattle.ca_response.specs.Outputs.{output_node}
 use Rattle.ca_row_block.specs.Rows.{first_of, last_of}
 use Rattle.ca_row_block.specs.code.Loaded.{IsLoadedTo, rails_and}

@@ -2,7 +2,7 @@ use Rattle.std.proofs.Common.{◌∙◌, length, sym, ap, subst}
 use Rattle.std.specs.Prelude.{IfOk, Option}
 use Rattle.ca_flat.specs.declared.chip_defect.ChipDefect.{ChipDefect}
 use Rattle.ca_linked.specs.Linked.{LinkedChip, IsWired, inputs_of}
-use Rattle.ca_core.specs.Core.{core_of}
+use Rattle.ca_view.specs.Core.{core_of}
 use Rattle.ca_flatten.specs.Few.{IsFew}
 use Rattle.ca_view.specs.Places.{AreRanks}
 use Rattle.ca_request.specs.Asked.{IsLibraryDefect}

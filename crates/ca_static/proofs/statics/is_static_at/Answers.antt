@@ -3,7 +3,7 @@ use Rattle.std.specs.List.{All}
 use Rattle.ca_net.specs.declared.trit.Trit.TheVariants.{X}
 use Rattle.ca_net.specs.declared.wave.Wave.{Wave}
 use Rattle.ca_cell.specs.Raw.{is_input, role_count, circuit_of}
-use Rattle.ca_defect.specs.Row.{vector_of}
+use Rattle.ca_cell.specs.Row.{vector_of}
 use Rattle.ca_response.specs.Outputs.{AreEndsOf}
 use Rattle.ca_static.proofs.WaveLemmas.{same_count}
 use Rattle.ca_static.proofs.StaticLemmas.{static_of_definite, definite_of_static}

@@ -1,5 +1,5 @@
 use Rattle.ca_linked.specs.Linked.{inputs_of}
-use Rattle.ca_core.specs.Core.{core_of}
+use Rattle.ca_view.specs.Core.{core_of}
 use Rattle.ca_view.proofs.EndLemmas.{input_within, input_is, next_net, core_length}
 use Rattle.ca_view.proofs.ends.input_nets.Goals as goal
 

@@ -1,5 +1,5 @@
 use Rattle.std.specs.Prelude.{◌≡◌, take}
-use Rattle.ca_core.specs.Core.{core_of}
+use Rattle.ca_view.specs.Core.{core_of}
 use Rattle.ca_view.proofs.ends.output_nets.Given as goal
 
 abbrev pub invariant-loop-o : goal.invariant-loop-o

@@ -1,4 +1,4 @@
-use Rattle.ca_core.specs.Core.{core_of}
+use Rattle.ca_view.specs.Core.{core_of}
 use Rattle.ca_view.specs.code.Pins.{items_of, AreInputNets}
 use Rattle.ca_view.proofs.pins.all_inputs.Given as goal
 

@@ -1,4 +1,4 @@
-use Rattle.ca_core.specs.Core.{core_of}
+use Rattle.ca_view.specs.Core.{core_of}
 use Rattle.ca_view.specs.code.Pins.{items_of, AreOutputNets}
 use Rattle.ca_view.proofs.pins.all_outputs.Given as goal
 

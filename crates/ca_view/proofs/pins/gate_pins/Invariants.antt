@@ -1,4 +1,4 @@
-use Rattle.ca_core.specs.Core.{core_of}
+use Rattle.ca_view.specs.Core.{core_of}
 use Rattle.ca_view.specs.NetLists.{ArePinNets}
 use Rattle.ca_view.proofs.pins.gate_pins.Given as goal
 

@@ -2,8 +2,8 @@ use Rattle.std.proofs.Common.{◌≡◌, ◌+◌, ◌*◌, ◌∙◌, sym, ap, s
 use Rattle.ca_net.specs.Limits.{IsFirstLimit}
 use Rattle.ca_cell.specs.declared.raw.RawCell.{RawCell}
 use Rattle.ca_cell.specs.Raw.{is_input, role_count}
-use Rattle.ca_defect.specs.Exposes.{pin_vector}
-use Rattle.ca_defect.specs.Row.{vector_of}
+use Rattle.ca_cell.specs.Exposes.{pin_vector}
+use Rattle.ca_cell.specs.Row.{vector_of}
 use Rattle.ca_planes.specs.Trits.{state_in}
 use Rattle.ca_row_block.specs.Rows.{last_of}
 use Rattle.ca_row_block.specs.code.Loaded.{IsLoadedTo, rails_and}

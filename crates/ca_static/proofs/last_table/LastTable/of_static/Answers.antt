@@ -1,6 +1,6 @@
 use Rattle.std.proofs.Common.{◌≡◌, ◌^◌, ◌+◌, replicate, ap, sym, ◌∙◌, subst, arith}
 use Rattle.ca_cell.specs.Raw.{is_input, role_count, circuit_of}
-use Rattle.ca_defect.specs.Row.{vector_of}
+use Rattle.ca_cell.specs.Row.{vector_of}
 use Rattle.ca_response.specs.Outputs.{AreEndsOf}
 use Rattle.ca_net.specs.declared.trit.Trit.TheVariants.{X}
 use Rattle.ca_static.proofs.WaveLemmas.{same_count}

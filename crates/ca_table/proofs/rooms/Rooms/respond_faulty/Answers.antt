@@ -1,6 +1,6 @@
 use Rattle.std.proofs.Common.{subst}
-use Rattle.ca_defect.specs.List.{faulty_of}
-use Rattle.ca_defect.specs.Overlay.{Faulty}
+use Rattle.ca_cell.specs.List.{faulty_of}
+use Rattle.ca_cell.specs.Overlay.{Faulty}
 use Rattle.ca_table.specs.Gives.{Gives}
 use Rattle.ca_table.proofs.GivesLemmas.{gives}
 use Rattle.ca_table.proofs.rooms.Rooms.respond_faulty.Goals as goal

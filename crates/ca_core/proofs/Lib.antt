@@ -1,4 +1,0 @@
-pub mod CoreLemmas
-pub mod CorePartLemmas
-pub mod CoreIsChip
-pub mod NumberLemmas

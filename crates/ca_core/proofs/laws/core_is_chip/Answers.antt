@@ -1,5 +1,0 @@
-use Rattle.ca_core.proofs.CoreIsChip.{core_is}
-use Rattle.ca_core.proofs.laws.core_is_chip.Goals as goal
-
-pub returns : goal.returns
-returns c = core_is

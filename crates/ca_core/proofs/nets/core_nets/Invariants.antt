@@ -1,5 +1,0 @@
-use Rattle.ca_core.proofs.NumberLemmas.{AreFirstNumbers}
-use Rattle.ca_core.proofs.nets.core_nets.Given as goal
-
-abbrev pub invariant-loop-net : goal.invariant-loop-net
-invariant-loop-net l = AreFirstNumbers l.chip l.net l.numbers.items l.count
