@@ -5,7 +5,7 @@ use Rattle.ca_net.specs.declared.trit.Trit.{Trit}
 use Rattle.ca_net.specs.declared.trit.Trit.TheVariants.{X}
 use Rattle.ca_net.specs.declared.wave.Wave.{Wave}
 use Rattle.ca_cell.specs.Exposes.{opposite_of}
-use Rattle.ca_table.specs.Gives.{wave_at}
+use Rattle.ca_response.specs.Gives.{wave_at}
 use Rattle.ca_flat.specs.declared.chip_defect.ChipDefect.{ChipDefect}
 use Rattle.ca_flat.specs.Chip.{Chip, inputs_at, net_of, count_of}
 use Rattle.ca_flat.specs.Chain.{IsReachedFrom}

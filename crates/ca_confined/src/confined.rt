@@ -3,7 +3,7 @@
 ghost use Rattle.std.specs.Prelude.{◌≡◌, ◌<◌, ◌+◌, ◌*◌, ◌↔◌, length, slice_set};
 ghost use Rattle.std.specs.Prelude.{IfOk, IsFalse, IsTrue, Some, None};
 ghost use Rattle.ca_net.specs.State.{value_at};
-ghost use Rattle.ca_table.specs.Gives.{wave_at};
+ghost use Rattle.ca_response.specs.Gives.{wave_at};
 ghost use Rattle.ca_sim.specs.Seen.{value_of};
 
 use crate::clear::clear;

@@ -54,7 +54,7 @@ pub(crate) fn settle(
 ghost use Rattle.std.specs.Prelude.{length};
 ghost use Rattle.std.specs.List.{All};
 ghost use Rattle.ca_net.specs.Wave.{IsWave};
-ghost use Rattle.ca_table.specs.Gives.{Gives};
+ghost use Rattle.ca_response.specs.Gives.{Gives};
 ghost use Rattle.ca_flat.specs.Chip.{cell_at, inputs_at};
 ghost use Rattle.ca_flat.specs.Flat.{circuit_in};
 ghost use Rattle.ca_sim.specs.Network.{IsTwinAt};

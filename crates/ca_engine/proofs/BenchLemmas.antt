@@ -12,7 +12,7 @@ use Rattle.ca_flat.specs.Chip.{Chip, IsDefectIn, IsChipDefect}
 use Rattle.ca_flat.specs.Flat.{flat}
 use Rattle.ca_flat.specs.Codes.{branch_count}
 use Rattle.ca_flat.specs.Simulation.{IsFlattened}
-use Rattle.ca_table.specs.Gives.{wave_at}
+use Rattle.ca_response.specs.Gives.{wave_at}
 use Rattle.ca_cell.specs.Exposes.{opposite_of}
 use Rattle.ca_sim.specs.Seen.{Seen, IsExact, aimed_anew}
 use Rattle.ca_sim.specs.Laws.{DefiniteLastIsEnd}

@@ -11,7 +11,7 @@ use Rattle.ca_flat.specs.Chip.{Chip, count_of}
 use Rattle.ca_flat.specs.Flat.{flat}
 use Rattle.ca_flat.specs.Pair.{bit_count}
 use Rattle.ca_flips.specs.Flips.{AreLastsOf}
-use Rattle.ca_table.specs.Gives.{unknown_wave}
+use Rattle.ca_response.specs.Gives.{unknown_wave}
 use Rattle.ca_sim.specs.Seen.{Seen, IsExact}
 use Rattle.ca_sweep.specs.Seen.{lasts_in}
 use Rattle.ca_every_vector.specs.Possible.{AreFirstsOf, HasFirsts, HasLasts}

@@ -6,7 +6,7 @@ use Rattle.ca_net.specs.declared.trit.Trit.TheVariants.{X}
 use Rattle.ca_net.specs.declared.wave.Wave.{Wave}
 use Rattle.ca_net.specs.Circuit.{IsWellFormed}
 use Rattle.ca_net.specs.State.{value_at}
-use Rattle.ca_table.specs.Gives.{unknown_wave}
+use Rattle.ca_response.specs.Gives.{unknown_wave}
 use Rattle.ca_flat.specs.Flat.{flat}
 use Rattle.ca_flips.specs.Flips.{AreLastsOf}
 use Rattle.ca_sim.specs.Seen.{Seen, AreNetWaves, IsExact}

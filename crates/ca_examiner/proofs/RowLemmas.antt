@@ -12,7 +12,7 @@ use Rattle.ca_net.specs.Trit.{IsBelow}
 use Rattle.ca_net.specs.State.{value_at}
 use Rattle.ca_cell.specs.declared.row.Row.{Row}
 use Rattle.ca_cell.specs.Row.{digit_value, vector_of}
-use Rattle.ca_table.specs.Gives.{wave_at}
+use Rattle.ca_response.specs.Gives.{wave_at}
 use Rattle.ca_flat.specs.declared.chip_defect.ChipDefect.{ChipDefect}
 use Rattle.ca_flat.specs.Chip.{IsChip, inputs_at, net_of, count_of}
 use Rattle.ca_flat.specs.Waves.{FlatWaves, wave_of}

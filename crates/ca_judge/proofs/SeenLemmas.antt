@@ -8,7 +8,7 @@ use Rattle.ca_net.specs.declared.trit.Trit.{Trit}
 use Rattle.ca_net.specs.declared.trit.Trit.TheVariants.{Zero, One, X}
 use Rattle.ca_net.specs.declared.wave.Wave.{Wave}
 use Rattle.ca_net.specs.State.{value_at}
-use Rattle.ca_table.specs.Gives.{wave_at}
+use Rattle.ca_response.specs.Gives.{wave_at}
 use Rattle.ca_flat.specs.declared.chip_defect.ChipDefect.{ChipDefect}
 use Rattle.ca_flat.specs.Waves.{FlatWaves, wave_of, unknown_wave}
 use Rattle.ca_guide.specs.Seen as guide

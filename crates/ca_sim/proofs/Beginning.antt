@@ -18,7 +18,7 @@ use Rattle.ca_net.specs.State.{value_at}
 use Rattle.ca_net.specs.Wave.{IsWave, pair_of}
 use Rattle.ca_response.specs.Outputs.{wave_in, output_node}
 use Rattle.ca_response.proofs.PairLemmas.{pair_is_wave}
-use Rattle.ca_table.specs.Gives.{unknown_wave, wave_at}
+use Rattle.ca_response.specs.Gives.{unknown_wave, wave_at}
 use Rattle.ca_flat.specs.Chip.{Chip, Constant, cell_at, inputs_at, outputs_at, output_net, count_of, net_kind}
 use Rattle.ca_flat.specs.Flat.{circuit_in}
 use Rattle.ca_flat.specs.Pair.{bit_count, input_value, constant_value, net_value}

@@ -4,9 +4,9 @@ use Rattle.std.proofs.lemmas.Bool.{cases_eq}
 use Rattle.std.proofs.lemmas.List.{get_or-set_same, get_or-set_other, length-set}
 use Rattle.ca_cell.specs.declared.raw.RawCell.{RawCell}
 use Rattle.ca_flat.specs.Chip.{Chip, cell_at}
-use Rattle.ca_table.specs.declared.rooms.Rooms.{Rooms}
+use Rattle.ca_response.specs.declared.rooms.Rooms.{Rooms}
 use Rattle.ca_view.specs.Linked.{IsLinked, IsPlaced}
-use Rattle.ca_table.specs.Rooms.{AreRoomsOf}
+use Rattle.ca_response.specs.Rooms.{AreRoomsOf}
 use Rattle.ca_sim.specs.code.Cells.{AreCellRooms}
 
 module _ (chip : Chip) (place_of number_of : ℕ → ℕ) (rooms : List Rooms) (are : AreCellRooms chip place_of number_of rooms) (u : ℕ) (lt : IsPlaced chip place_of u) where

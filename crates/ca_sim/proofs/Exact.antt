@@ -24,7 +24,7 @@ use Rattle.ca_flat.proofs.PairLemmas.{middle_under_first, middle_under_last}
 use Rattle.ca_flat.proofs.NetInduction.{net_induction}
 use Rattle.ca_flat.proofs.InstanceWaves.{at_instance, output_value, rail_value, input_wave, part_limits}
 use Rattle.ca_flat.proofs.InstanceWaves.{ends_last, last_ends}
-use Rattle.ca_table.specs.Gives.{wave_at}
+use Rattle.ca_response.specs.Gives.{wave_at}
 use Rattle.ca_sim.specs.Current.{input_waves, output_waves, IsCurrent, IsSimulated}
 use Rattle.ca_sim.specs.code.Current.{IsDrivenIn}
 use Rattle.ca_flat.specs.Simulation.{IsFlattened}

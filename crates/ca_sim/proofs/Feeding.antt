@@ -11,7 +11,7 @@ use Rattle.ca_net.specs.Wave.{pair_of}
 use Rattle.ca_flat.specs.declared.chip_defect.ChipDefect.{ChipDefect}
 use Rattle.ca_flat.specs.Chip.{Chip, count_of, net_kind}
 use Rattle.ca_flat.specs.Pair.{input_value, constant_value, net_value}
-use Rattle.ca_table.specs.Gives.{wave_at}
+use Rattle.ca_response.specs.Gives.{wave_at}
 use Rattle.ca_sim.specs.Current.{pair_wave, IsSimulated}
 use Rattle.ca_view.specs.Linked.{IsPinned, IsLinked}
 use Rattle.ca_sim.specs.declared.network.Network.{Network}

@@ -5,7 +5,7 @@ use Rattle.std.proofs.lemmas.Bool.{cases_eq}
 use Rattle.std.proofs.lemmas.List.{get_or-set_same, get_or-set_other, length-set}
 use Rattle.ca_net.specs.declared.wave.Wave.{Wave}
 use Rattle.ca_flat.specs.Chip.{Chip, outputs_at, net_of, output_net, count_of, Drives}
-use Rattle.ca_table.specs.Gives.{unknown_wave, wave_at}
+use Rattle.ca_response.specs.Gives.{unknown_wave, wave_at}
 use Rattle.ca_view.specs.Linked.{IsLinked, IsPlaced, IsPlace, Reads}
 use Rattle.ca_sim.specs.Changes.{HasReadersDue}
 use Rattle.ca_sim.specs.declared.network.Network.{Network}

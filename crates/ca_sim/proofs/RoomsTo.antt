@@ -4,7 +4,7 @@ use Rattle.std.proofs.Common.{subst, arith, length-append, get_or, Option}
 use Rattle.std.specs.List.{All}
 use Rattle.std.proofs.lemmas.Bool.{cases_lt}
 use Rattle.std.proofs.lemmas.List.{get_or_push, get_or_append_left}
-use Rattle.ca_table.specs.declared.rooms.Rooms.{Rooms}
+use Rattle.ca_response.specs.declared.rooms.Rooms.{Rooms}
 use Rattle.ca_flat.specs.Chip.{Chip}
 use Rattle.ca_view.specs.Linked.{IsPlaced}
 use Rattle.ca_sim.specs.declared.cache.Entry.{Entry}

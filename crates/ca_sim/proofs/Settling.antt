@@ -9,7 +9,7 @@ use Rattle.ca_net.specs.Wave.{IsWave}
 use Rattle.ca_flat.specs.declared.chip_defect.ChipDefect.{ChipDefect}
 use Rattle.ca_flat.specs.Chip.{Chip, cell_at, count_of}
 use Rattle.ca_flat.specs.Flat.{circuit_in}
-use Rattle.ca_table.specs.Gives.{Gives}
+use Rattle.ca_response.specs.Gives.{Gives}
 use Rattle.ca_sim.specs.Current.{input_waves, IsSimulated}
 use Rattle.ca_sim.specs.Current.{none_due}
 use Rattle.ca_view.specs.Linked.{IsLinked, IsPlaced}

@@ -17,7 +17,7 @@ use Rattle.ca_flat.specs.Chip.{Drives, IsChip}
 use Rattle.ca_flat.specs.Flat.{circuit_in}
 use Rattle.ca_flat.specs.Chain.{IsOutputOf}
 use Rattle.ca_flat.proofs.Detected.{other_circuit}
-use Rattle.ca_table.specs.Gives.{unknown_wave, wave_at, Gives}
+use Rattle.ca_response.specs.Gives.{unknown_wave, wave_at, Gives}
 use Rattle.ca_sim.specs.Current.{input_waves, output_waves, IsCurrent, IsSimulated}
 use Rattle.ca_sim.specs.Changes.{IsWritten, HasReadersDue}
 use Rattle.ca_sim.specs.code.Changes.{IsFed}

@@ -8,7 +8,7 @@ use Rattle.std.specs.List.{All}
 use Rattle.ca_flat.specs.declared.chip_defect.ChipDefect.{ChipDefect}
 use Rattle.ca_flat.specs.Chip.{Chip, cell_at, circuit_at, output_net, outputs_at}
 use Rattle.ca_flat.specs.Flat.{defect_at, with_defect, circuit_in}
-use Rattle.ca_table.specs.Gives.{Gives}
+use Rattle.ca_response.specs.Gives.{Gives}
 use Rattle.ca_sim.specs.Current.{input_waves, output_waves}
 use Rattle.ca_sim.specs.declared.network.Network.{Network}
 use Rattle.ca_sim.specs.Network.{IsTwinAt, IsGiven}

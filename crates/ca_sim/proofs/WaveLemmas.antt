@@ -9,7 +9,7 @@ use Rattle.std.proofs.lemmas.Bool.{cases_lt}
 use Rattle.std.proofs.lemmas.List.{get_or_past}
 use Rattle.std.proofs.lemmas.List.Elements.{All-from_get_or, All-contains, Contains-get_or}
 use Rattle.ca_net.specs.Wave.{IsWave}
-use Rattle.ca_table.specs.Gives.{unknown_wave, wave_at}
+use Rattle.ca_response.specs.Gives.{unknown_wave, wave_at}
 use Rattle.ca_sim.specs.Current.{waves_from}
 
 module _ (net : ℕ → ℕ) (waves : List Wave) where

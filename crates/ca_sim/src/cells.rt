@@ -3,7 +3,7 @@
 ghost use Rattle.std.specs.Prelude.{◌≡◌, ◌<◌, length, IfOk};
 ghost use Rattle.std.specs.List.{All};
 ghost use Rattle.ca_net.specs.Wave.{IsWave};
-ghost use Rattle.ca_table.specs.Gives.{Gives};
+ghost use Rattle.ca_response.specs.Gives.{Gives};
 ghost use Rattle.ca_flat.specs.Chip.{cell_at, inputs_at, count_of, IsChipDefect};
 ghost use Rattle.ca_flat.specs.Flat.{circuit_in, defect_at};
 ghost use Rattle.ca_view.specs.Linked.{IsPlaced, place_in};
@@ -15,8 +15,7 @@ use ca_base::NoMemory;
 use ca_cell::Defect;
 use ca_flat::ChipDefect;
 use ca_net::{Trit, Wave};
-use ca_response::{OutWaves, PinWaves};
-use ca_table::{MOST_TABLE_INPUTS, Rooms, copied};
+use ca_response::{MOST_TABLE_INPUTS, OutWaves, PinWaves, Rooms, copied};
 use ca_view::View;
 use std::alloc::Global;
 

@@ -2,7 +2,7 @@
 
 ghost use Rattle.std.specs.Prelude.{◌≡◌, ◌<◌, length};
 ghost use Rattle.ca_net.specs.State.{value_at};
-ghost use Rattle.ca_table.specs.Gives.{wave_at};
+ghost use Rattle.ca_response.specs.Gives.{wave_at};
 ghost use Rattle.ca_sim.specs.Seen.{value_of, IsExact};
 
 use ca_net::Wave;

@@ -71,7 +71,7 @@ impl<'a> Sim<'a> {
     ghost use Rattle.ca_net.specs.Wave.{IsWave};
     ghost use Rattle.ca_flat.specs.Chip.{cell_at, inputs_at, IsChipDefect};
     ghost use Rattle.ca_flat.specs.Flat.{circuit_in};
-    ghost use Rattle.ca_table.specs.Gives.{Gives};
+    ghost use Rattle.ca_response.specs.Gives.{Gives};
     ghost use Rattle.ca_view.specs.Linked.{IsPlaced};
     ghost use Rattle.ca_sim.specs.Network.{IsAtRest};
 

@@ -1,7 +1,7 @@
 //! Lists of waves.
 
 ghost use Rattle.std.specs.Prelude.{◌≡◌, ◌<◌, length, slice_set, replicate, IfOk};
-ghost use Rattle.ca_table.specs.Gives.{wave_at, unknown_wave};
+ghost use Rattle.ca_response.specs.Gives.{wave_at, unknown_wave};
 
 use ca_base::NoMemory;
 use ca_net::Wave;

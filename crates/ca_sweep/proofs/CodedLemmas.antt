@@ -11,7 +11,7 @@ use Rattle.ca_flat.specs.Chip.{Chip, cell_at, outputs_at}
 use Rattle.ca_flat.specs.Waves.{IsFlatChip}
 use Rattle.ca_flips.specs.Flips.{AreGoodLasts, AreLastsOf}
 use Rattle.ca_flips.specs.Laws.{SweptAreFlipped, DetectedIsFilledIn, DetectedIsFlipped}
-use Rattle.ca_table.specs.Gives.{wave_at}
+use Rattle.ca_response.specs.Gives.{wave_at}
 use Rattle.ca_sweep.specs.declared.hand.Hand.{Hand}
 use Rattle.ca_sweep.specs.declared.row.Row.{Row}
 use Rattle.ca_sweep.specs.declared.seen.Seen.{Seen}

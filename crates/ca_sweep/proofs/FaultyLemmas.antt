@@ -7,7 +7,7 @@ use Rattle.ca_net.specs.declared.wave.Wave.{Wave}
 use Rattle.ca_net.specs.declared.trit.Trit.{Trit}
 use Rattle.ca_cell.specs.declared.raw.RawCell.{RawCell}
 use Rattle.ca_cell.specs.List.{faulty_of}
-use Rattle.ca_table.specs.Gives.{Gives, wave_at, unknown_wave}
+use Rattle.ca_response.specs.Gives.{Gives, wave_at, unknown_wave}
 use Rattle.ca_flat.specs.Chip.{Chip, cell_at, outputs_at}
 use Rattle.ca_view.specs.Linked.{IsLinked, IsPlaced}
 use Rattle.ca_sweep.specs.declared.faulty.Entry.{Entry}

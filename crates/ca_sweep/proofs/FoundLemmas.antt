@@ -12,7 +12,7 @@ use Rattle.ca_flat.specs.Waves.{IsFlatChip}
 use Rattle.ca_cell.specs.List.{faulty_of}
 use Rattle.ca_flips.specs.Flips.{AreFlipped, IsOpposite, known_or, filled_in, AreLastsOf, AreGoodLasts, AreFaultyLasts}
 use Rattle.ca_flips.specs.Laws.{SweptAreFlipped, DetectedIsFilledIn, DetectedIsFlipped}
-use Rattle.ca_table.specs.Gives.{Gives, wave_at}
+use Rattle.ca_response.specs.Gives.{Gives, wave_at}
 use Rattle.ca_sim.specs.Seen.{AreNetWaves}
 use Rattle.ca_sweep.specs.declared.seen.Flips.{Flips}
 use Rattle.ca_sweep.specs.declared.seen.Seen.{Seen}

@@ -10,7 +10,7 @@ use Rattle.ca_net.specs.declared.wave.Wave.{Wave}
 use Rattle.ca_cell.specs.declared.raw.RawCell.{RawCell}
 use Rattle.ca_cell.specs.declared.defect.Defect.{Defect}
 use Rattle.ca_cell.specs.List.{faulty_of, defects_of}
-use Rattle.ca_table.specs.Gives.{Gives, wave_at}
+use Rattle.ca_response.specs.Gives.{Gives, wave_at}
 use Rattle.ca_flat.specs.Chip.{Chip, cell_at, outputs_at}
 use Rattle.ca_flips.specs.Flips.{IsOpposite}
 use Rattle.ca_planes.specs.Plane.{has_lane}

@@ -4,7 +4,7 @@ ghost use Rattle.std.specs.Prelude.{◌≡◌, ◌<◌, length, IfOk, IfSome, Is
 ghost use Rattle.std.specs.List.{All};
 ghost use Rattle.ca_net.specs.Wave.{IsWave};
 ghost use Rattle.ca_cell.specs.List.{faulty_of};
-ghost use Rattle.ca_table.specs.Gives.{Gives};
+ghost use Rattle.ca_response.specs.Gives.{Gives};
 ghost use Rattle.ca_flat.specs.Chip.{cell_at, inputs_at, IsDefectIn};
 ghost use Rattle.ca_view.specs.Linked.{IsPlaced, IsPlacedDefect, place_in};
 ghost use Rattle.ca_view.specs.Places.{cell_number};
@@ -16,8 +16,7 @@ use ca_base::NoMemory;
 use ca_cell::Defect;
 use ca_flat::ChipDefect;
 use ca_net::{Trit, Wave};
-use ca_response::{OutWaves, PinWaves};
-use ca_table::{Rooms, copied};
+use ca_response::{OutWaves, PinWaves, Rooms, copied};
 use ca_view::View;
 use std::alloc::Global;
 

@@ -279,7 +279,7 @@ fn code_of_lasts(outputs: &[Wave]) -> u8
     digit_of(last_at(outputs, 0)) + 4 * digit_of(last_at(outputs, 1))
 }
 
-ghost use Rattle.ca_table.specs.Gives.{wave_at};
+ghost use Rattle.ca_response.specs.Gives.{wave_at};
 
 // The last value of a wave, X where there is none.
 fn last_at(outputs: &[Wave], output: usize) -> Trit

@@ -7,7 +7,7 @@ use Rattle.ca_net.specs.Trit.{IsBelow}
 use Rattle.ca_net.specs.State.{value_at}
 use Rattle.ca_cell.specs.declared.row.Row.{Row}
 use Rattle.ca_cell.specs.Row.{vector_of}
-use Rattle.ca_table.specs.Gives.{wave_at}
+use Rattle.ca_response.specs.Gives.{wave_at}
 use Rattle.ca_flat.specs.Chip.{inputs_at, net_of}
 use Rattle.ca_sim.specs.Seen.{Seen}
 use Rattle.ca_examiner.specs.declared.rows.End.{End}

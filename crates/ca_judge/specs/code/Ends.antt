@@ -3,7 +3,7 @@ use Rattle.std.specs.Prelude.{ℕ, ◌≡◌, ◌<◌, Bool, true, false, List, 
 use Rattle.std.specs.List.{All, Any}
 use Rattle.ca_net.specs.declared.trit.Trit.{Trit}
 use Rattle.ca_net.specs.declared.trit.Trit.TheVariants.{Zero, One, X}
-use Rattle.ca_table.specs.Gives.{wave_at}
+use Rattle.ca_response.specs.Gives.{wave_at}
 use Rattle.ca_sim.specs.Seen.{Seen}
 use Rattle.ca_search.specs.declared.judge.Standing.{Standing}
 use Rattle.ca_search.specs.declared.judge.Standing.TheVariants.{Shown, Settled, Open}

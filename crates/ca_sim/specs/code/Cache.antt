@@ -4,7 +4,7 @@ use Rattle.std.specs.List.{All}
 use Rattle.ca_net.specs.declared.wave.Wave.{Wave}
 use Rattle.ca_net.specs.Wave.{IsWave}
 use Rattle.ca_cell.specs.declared.defect.Defect.{Defect}
-use Rattle.ca_table.specs.Gives.{Gives}
+use Rattle.ca_response.specs.Gives.{Gives}
 use Rattle.ca_flat.specs.Chip.{Chip, cell_at, circuit_at}
 use Rattle.ca_flat.specs.Flat.{with_defect}
 use Rattle.ca_view.specs.Linked.{IsPlaced}

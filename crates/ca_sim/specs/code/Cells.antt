@@ -1,7 +1,7 @@
 -- What only proofs of code cite: the room for all cells of a chip.
 use Rattle.std.specs.Prelude.{ℕ, ◌≡◌, ◌<◌, List, length, slice_index_or, Option, None, Some}
-use Rattle.ca_table.specs.declared.rooms.Rooms.{Rooms}
-use Rattle.ca_table.specs.Rooms.{AreRoomsOf}
+use Rattle.ca_response.specs.declared.rooms.Rooms.{Rooms}
+use Rattle.ca_response.specs.Rooms.{AreRoomsOf}
 use Rattle.ca_flat.specs.Chip.{Chip, cell_at}
 use Rattle.ca_view.specs.Linked.{IsPlaced}
 use Rattle.ca_sim.specs.declared.cells.Cells.{Cells}

@@ -4,7 +4,7 @@ use Rattle.ca_net.specs.declared.trit.Trit.{Trit}
 use Rattle.ca_net.specs.declared.wave.Wave.{Wave}
 use Rattle.ca_net.specs.declared.node.NodeKind.TheVariants.{Input}
 use Rattle.ca_net.specs.Wave.{IsWave, pair_of}
-use Rattle.ca_table.specs.Gives.{wave_at, Gives}
+use Rattle.ca_response.specs.Gives.{wave_at, Gives}
 use Rattle.ca_flat.specs.declared.chip_defect.ChipDefect.{ChipDefect}
 use Rattle.ca_flat.specs.Chip.{Chip, cell_at, inputs_at, outputs_at, net_of, output_net, count_of, net_kind}
 use Rattle.ca_flat.specs.Chip.{Drives}

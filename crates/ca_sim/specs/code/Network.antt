@@ -6,7 +6,7 @@ use Rattle.ca_net.specs.declared.trit.Trit.TheVariants.{X}
 use Rattle.ca_net.specs.declared.wave.Wave.{Wave}
 use Rattle.ca_net.specs.State.{value_at}
 use Rattle.ca_net.specs.Wave.{IsWave, pair_of}
-use Rattle.ca_table.specs.Gives.{wave_at, Gives}
+use Rattle.ca_response.specs.Gives.{wave_at, Gives}
 use Rattle.ca_flat.specs.declared.chip_defect.ChipDefect.{ChipDefect}
 use Rattle.ca_flat.specs.Chip.{Chip, Constant, cell_at, count_of}
 use Rattle.ca_flat.specs.Flat.{circuit_in}

@@ -8,7 +8,7 @@ use Rattle.ca_net.specs.declared.wave.Wave.{Wave}
 use Rattle.ca_cell.specs.declared.raw.RawCell.{RawCell}
 use Rattle.ca_cell.specs.declared.defect.Defect.{Defect}
 use Rattle.ca_cell.specs.List.{faulty_of, defects_of, IsDefectOf}
-use Rattle.ca_table.specs.Gives.{Gives, wave_at}
+use Rattle.ca_response.specs.Gives.{Gives, wave_at}
 use Rattle.ca_flat.specs.Chip.{Chip, cell_at, count_of, outputs_at, output_net}
 use Rattle.ca_flips.specs.Flips.{IsOpposite}
 use Rattle.ca_view.specs.Linked.{IsPlaced}

@@ -2,7 +2,7 @@ use Rattle.std.proofs.Common.{◌≡◌, length, arith, sym, ◌∙◌}
 use Rattle.std.proofs.lemmas.List.{length-map, get_or-map, get_or_default, same_lists}
 use Rattle.ca_net.specs.declared.trit.Trit.TheVariants.{X}
 use Rattle.ca_net.specs.declared.wave.Wave.{Wave}
-use Rattle.ca_table.specs.Gives.{unknown_wave}
+use Rattle.ca_response.specs.Gives.{unknown_wave}
 use Rattle.ca_every_vector.specs.code.Firsts.{firsts_in}
 use Rattle.ca_every_vector.proofs.values.load_firsts.Goals as goal
 

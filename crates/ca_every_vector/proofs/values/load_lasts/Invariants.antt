@@ -1,6 +1,6 @@
 use Rattle.std.proofs.Common.{ℕ, ◌≡◌, ◌<◌, length}
 use Rattle.ca_net.specs.State.{value_at}
-use Rattle.ca_table.specs.Gives.{wave_at}
+use Rattle.ca_response.specs.Gives.{wave_at}
 use Rattle.ca_every_vector.proofs.values.load_lasts.Given as goal
 
 abbrev pub invariant-loop-net : goal.invariant-loop-net

@@ -1,6 +1,6 @@
 use Rattle.std.proofs.Common.{◌≡◌, ◌-◌, ◌/◌, ◌%◌, ◌^◌, ◌∙◌, sym, ap, true, false, arith}
 use Rattle.ca_cell.specs.Row.{digit_value}
-use Rattle.ca_table.specs.Gives.{wave_at}
+use Rattle.ca_response.specs.Gives.{wave_at}
 use Rattle.ca_flat.specs.Chip.{inputs_at, net_of}
 use Rattle.ca_examiner.proofs.RowLemmas.{over_more, not_over}
 use Rattle.ca_examiner.proofs.rows.is_over.Goals as goal

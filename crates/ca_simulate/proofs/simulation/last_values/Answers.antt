@@ -1,6 +1,6 @@
 use Rattle.std.proofs.Common.{◌≡◌, length, sym, ◌∙◌, ap, subst, arith}
 use Rattle.ca_net.specs.declared.wave.Wave.{Wave}
-use Rattle.ca_table.specs.Gives.{wave_at}
+use Rattle.ca_response.specs.Gives.{wave_at}
 use Rattle.ca_simulate.specs.code.Lasts.{HaveLasts}
 use Rattle.ca_simulate.proofs.EndLemmas.{no_lasts, lasts_more}
 use Rattle.ca_simulate.proofs.simulation.last_values.Goals as goal

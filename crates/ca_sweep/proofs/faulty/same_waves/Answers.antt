@@ -1,6 +1,6 @@
 use Rattle.std.proofs.Common.{arith}
 use Rattle.std.proofs.lemmas.List.{ext_get_or}
-use Rattle.ca_table.specs.Gives.{unknown_wave}
+use Rattle.ca_response.specs.Gives.{unknown_wave}
 use Rattle.ca_sweep.proofs.faulty.same_waves.Goals as goal
 
 pub returns : goal.returns

@@ -1,5 +1,5 @@
 use Rattle.std.proofs.Common.{◌≡◌, ℕ, ◌<◌}
-use Rattle.ca_table.specs.Gives.{wave_at}
+use Rattle.ca_response.specs.Gives.{wave_at}
 use Rattle.ca_sweep.proofs.faulty.same_waves.Given as goal
 
 abbrev pub invariant-loop-place : goal.invariant-loop-place

@@ -1,6 +1,6 @@
 use Rattle.std.proofs.Common.{◌≡◌, ◌<◌, length, set, arith, below_more, sym, ◌∙◌}
 use Rattle.std.proofs.lemmas.List.{get_or_default, get_or-set_same, get_or-set_other, length-set, same_lists}
-use Rattle.ca_table.specs.Gives.{unknown_wave, wave_at}
+use Rattle.ca_response.specs.Gives.{unknown_wave, wave_at}
 use Rattle.ca_sweep.proofs.finder.load.Goals as goal
 
 pub loop-net-preserved : goal.loop-net-preserved

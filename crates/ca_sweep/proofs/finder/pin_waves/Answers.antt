@@ -3,7 +3,7 @@ use Rattle.std.specs.List.{All}
 use Rattle.std.proofs.lemmas.List.{get_or_default}
 use Rattle.std.proofs.lemmas.List.Elements.{All-push}
 use Rattle.ca_net.specs.Wave.{IsWave}
-use Rattle.ca_table.specs.Gives.{unknown_wave, wave_at}
+use Rattle.ca_response.specs.Gives.{unknown_wave, wave_at}
 use Rattle.ca_flat.specs.Chip.{inputs_at, net_of}
 use Rattle.ca_sweep.proofs.FaultyLemmas.{pins_more}
 use Rattle.ca_sweep.proofs.finder.pin_waves.Goals as goal

@@ -1,7 +1,7 @@
 use Rattle.std.proofs.Common.{ℕ, ◌≡◌, ◌<◌, length}
 use Rattle.std.specs.List.{All}
 use Rattle.ca_net.specs.Wave.{IsWave}
-use Rattle.ca_table.specs.Gives.{wave_at}
+use Rattle.ca_response.specs.Gives.{wave_at}
 use Rattle.ca_flat.specs.Chip.{net_of}
 use Rattle.ca_sweep.proofs.finder.pin_waves.Given as goal
 

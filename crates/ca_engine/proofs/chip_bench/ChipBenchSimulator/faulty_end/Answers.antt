@@ -1,6 +1,6 @@
 use Rattle.std.proofs.Common.{◌<◌, ◌∙◌, length, slice_index, sym, ap, subst}
 use Rattle.ca_net.specs.declared.wave.Wave.{Wave}
-use Rattle.ca_table.specs.Gives.{wave_at}
+use Rattle.ca_response.specs.Gives.{wave_at}
 use Rattle.ca_credit.specs.Detection.{IsNetEnd}
 use Rattle.ca_engine.specs.ChipBench.{Benched}
 use Rattle.ca_engine.proofs.BenchLemmas.{output_within, faulty_ends}

@@ -1,7 +1,7 @@
 use Rattle.std.proofs.Common.{◌≡◌, length, ◌∙◌, ap, sym, arith, ◌++◌, ◌∷◌, []}
 use Rattle.ca_net.specs.declared.wave.Wave.{Wave}
 use Rattle.ca_flat.specs.Chip.{net_of}
-use Rattle.ca_table.specs.Gives.{wave_at}
+use Rattle.ca_response.specs.Gives.{wave_at}
 use Rattle.ca_sim.specs.Current.{waves_from}
 use Rattle.ca_sim.proofs.WaveLemmas.{waves_from-none, waves_from-more, length-waves_from}
 use Rattle.ca_sim.proofs.network.Network.input_waves.Goals as goal

@@ -3,7 +3,7 @@ use Rattle.std.specs.List.{All}
 use Rattle.ca_net.specs.Wave.{IsWave}
 use Rattle.ca_flat.specs.Chip.{cell_at, net_of, inputs_at}
 use Rattle.ca_flat.specs.Flat.{circuit_in}
-use Rattle.ca_table.specs.Gives.{Gives}
+use Rattle.ca_response.specs.Gives.{Gives}
 use Rattle.ca_sim.specs.Current.{input_waves}
 use Rattle.ca_sim.specs.Network.{IsWrittenOut}
 use Rattle.ca_places.proofs.PlaceLemmas.{holds_as}

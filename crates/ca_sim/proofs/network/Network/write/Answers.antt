@@ -1,6 +1,6 @@
 use Rattle.std.proofs.Common.{◌≡◌, ◌+◌, ◌∙◌, ap, subst, arith}
 use Rattle.std.proofs.lemmas.List.{get_or_default}
-use Rattle.ca_table.specs.Gives.{unknown_wave}
+use Rattle.ca_response.specs.Gives.{unknown_wave}
 use Rattle.ca_flat.specs.Chip.{inputs_at, outputs_at, net_of}
 use Rattle.ca_view.specs.Places.{cell_number}
 use Rattle.ca_sim.proofs.Putting.{IsWrittenTo, written_next, written_all}

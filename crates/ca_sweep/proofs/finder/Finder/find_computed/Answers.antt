@@ -7,7 +7,7 @@ use Rattle.ca_net.specs.State.{value_at}
 use Rattle.ca_flat.specs.Chip.{IsDefectIn}
 use Rattle.ca_flat.specs.Flat.{flat}
 use Rattle.ca_flips.specs.Flips.{AreLastsOf}
-use Rattle.ca_table.specs.Gives.{unknown_wave}
+use Rattle.ca_response.specs.Gives.{unknown_wave}
 use Rattle.ca_view.specs.Linked.{place_in}
 use Rattle.ca_sim.specs.Seen.{AreNetWaves}
 use Rattle.ca_sweep.specs.Seen.{Loaded, IsSeen}

@@ -1,3 +1,0 @@
-pub mod GivesLemmas
-pub mod RoomLemmas
-pub mod TableLemmas

@@ -1,5 +1,0 @@
-use Rattle.ca_table.proofs.GivesLemmas.{given_is_response_lem}
-use Rattle.ca_table.proofs.laws.given_is_response.Goals as goal
-
-pub returns : goal.returns
-returns c = given_is_response_lem

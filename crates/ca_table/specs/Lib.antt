@@ -1,5 +1,0 @@
-pub mod Gives
-pub mod Laws
-pub mod Table
-pub mod Rooms
-pub mod code

@@ -1,2 +1,0 @@
--- Words of the code: what its invariants and private contracts say. No public claim rests on them.
-pub mod Decoding

@@ -1,8 +1,0 @@
-//! The law of what networks of a cell give.
-
-ghost use Rattle.ca_table.specs.Laws.{GivenIsResponse};
-
-/// What is given is what `respond` answers.
-pub fn given_is_response()
-    ensures { GivenIsResponse }
-{}
