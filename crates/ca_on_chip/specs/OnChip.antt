@@ -8,7 +8,7 @@ use Rattle.ca_flat.specs.Flat.{flat}
 use Rattle.ca_linked.specs.Linked.{LinkedChip}
 use Rattle.ca_view.specs.Core.{core_of}
 use Rattle.ca_fault.specs.declared.fault.Fault.{Fault}
-use Rattle.ca_fault.specs.declared.fault.Fault.TheVariants.{BadVector, NoInstance, NoDefect, TooManyPairs}
+use Rattle.ca_fault.specs.declared.fault.Fault.TheVariants.{BadVector, NoInstance, NoDefect, TooManyPairs, NoMemory}
 use Rattle.ca_load.specs.Texts.{InputFiles, Inputs, OfInputs}
 use Rattle.ca_load.specs.Chips.{IsChipOf, IsTraced}
 use Rattle.ca_load.specs.Causes.{IsLoadCause}

@@ -1,5 +1,5 @@
 -- Words of the code beside those of `specs/OnChip.antt`. Private functions and proofs cite them.
-use Rattle.std.specs.Prelude.{◌≡◌, ◌⊎◌, List}
+use Rattle.std.specs.Prelude.{◌≡◌, ◌⊎◌, ℕ, List}
 use Rattle.ca_linked.specs.Linked.{LinkedChip}
 use Rattle.ca_fault.specs.declared.fault.Fault.{Fault}
 use Rattle.ca_fault.specs.declared.fault.Fault.TheVariants.{NoMemory}
