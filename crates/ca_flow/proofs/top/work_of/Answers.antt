@@ -107,32 +107,32 @@ returns-in_ok-find_tests-in-Atpg-clause-cause g c =
 pub returns-in-Replay-clause-cause : goal.returns-in-Replay-clause-cause
 returns-in-Replay-clause-cause g c = rw c.in-Replay.is c.replay_work.ensures.cause
 
-pub returns-in_ok-pairs-in-Make-clause-asked : goal.returns-in_ok-pairs-in-Make-clause-asked
-returns-in_ok-pairs-in-Make-clause-asked g c = λ words spelled.
+pub returns-in_ok-chip-in-Make-clause-asked : goal.returns-in_ok-chip-in-Make-clause-asked
+returns-in_ok-chip-in-Make-clause-asked g c = λ words spelled.
     let said : IsSpelledMake words c.in-Make.number = subst (IsSpelled words) c.in-Make.is spelled in
-    let found = c.in_ok-pairs-in-Make.field-0 in
-    rw c.printed-in_ok-pairs-in-Make.ensures.done
+    let found = c.in_ok-chip-in-Make.field-0 in
+    rw c.printed-in-Make.ensures.done
     (make_asked words c.in-Make.number (g.S.Store.files c.args.store.now) found.chip found.pairs found.aims found.verdicts said
-    (c.in_ok-pairs-in-Make.ensures).chip (c.in_ok-pairs-in-Make.ensures).good)
+    (c.in_ok-chip-in-Make.ensures).chip (c.in_ok-chip-in-Make.ensures).good)
 
-pub returns-in_err-pairs-in-Make-clause-cause : goal.returns-in_err-pairs-in-Make-clause-cause
-returns-in_err-pairs-in-Make-clause-cause g c =
+pub returns-in_err-chip-in-Make-clause-cause : goal.returns-in_err-chip-in-Make-clause-cause
+returns-in_err-chip-in-Make-clause-cause g c =
     let files = g.S.Store.files c.args.store.now in
     let before = g.S.Store.faults c.args.store.now in
-    let fault = c.in_err-pairs-in-Make.field-0.0 in
-    handed_on c.from_residual-in_err-pairs-in-Make.result fault
+    let fault = c.in_err-chip-in-Make.field-0.0 in
+    handed_on c.from_residual-in_err-chip-in-Make.result fault
     (λ fault. (words : List (List ℕ)) → IsSpelled words c.args.command.now → IsWorkCause words files before before fault)
-    c.from_residual-in_err-pairs-in-Make.ensures.1
+    c.from_residual-in_err-chip-in-Make.ensures.1
     (λ words spelled.
     let said : IsSpelledMake words c.in-Make.number = subst (IsSpelled words) c.in-Make.is spelled in
-    make_cause words c.in-Make.number files before before fault said (c.in_err-pairs-in-Make.ensures).cause)
+    make_cause words c.in-Make.number files before before fault said (c.in_err-chip-in-Make.ensures).cause)
 
-pub returns-in_err-pairs-in-Make-clause-no_sink : goal.returns-in_err-pairs-in-Make-clause-no_sink
-returns-in_err-pairs-in-Make-clause-no_sink g c =
-    let fault = c.in_err-pairs-in-Make.field-0.0 in
-    handed_on c.from_residual-in_err-pairs-in-Make.result fault (λ fault. fault ≢ SinkFailed)
-    c.from_residual-in_err-pairs-in-Make.ensures.1
-    (no_make_sink c.in-Make.number fault (c.in_err-pairs-in-Make.ensures).cause)
+pub returns-in_err-chip-in-Make-clause-no_sink : goal.returns-in_err-chip-in-Make-clause-no_sink
+returns-in_err-chip-in-Make-clause-no_sink g c =
+    let fault = c.in_err-chip-in-Make.field-0.0 in
+    handed_on c.from_residual-in_err-chip-in-Make.result fault (λ fault. fault ≢ SinkFailed)
+    c.from_residual-in_err-chip-in-Make.ensures.1
+    (no_make_sink c.in-Make.number fault (c.in_err-chip-in-Make.ensures).cause)
 
 pub returns-in-Diagnose-clause-cause : goal.returns-in-Diagnose-clause-cause
 returns-in-Diagnose-clause-cause g c = rw c.in-Diagnose.is c.candidates_work.ensures.cause
