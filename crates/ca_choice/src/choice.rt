@@ -3,6 +3,7 @@
 ghost use Rattle.ca_guide.specs.Seen.{Covers};
 
 use crate::cone::Cone;
+use crate::goal::Goal;
 use crate::goals::Goals;
 use crate::past::Past;
 use crate::plan::Plan;
@@ -27,7 +28,7 @@ use std::alloc::Global;
 const MOST_ROW_GOALS: usize = 12;
 
 /// A choice of the next bit: it wants the cheapest row of the defect and the cheapest way out, and of these
-/// the dearest value first. A value after which the defect couldn't be seen gives way to the opposite one.
+/// the costliest value first. A value after which the defect couldn't be seen gives way to the opposite one.
 /// All memory is taken by `reserve`.
 #[derive(Drop)]
 pub struct CheapestWay<'a> {
@@ -133,57 +134,19 @@ impl<'a> CheapestWay<'a> {
             sight,
             wants: &self.nothing,
         };
-        self.ways.find(&scene);
-        self.goals.clear();
-        self.wants.clear();
-        let net = match showing_output(&scene, &self.ways, part) {
-            Some(net) => {
-                self.ways
-                    .add_goals(&scene, net, Asked::Nearest, &mut self.goals);
-                net
-            }
-            None => {
-                if !want_row(
-                    &scene,
-                    &mut self.rows,
-                    part,
-                    &mut self.goals,
-                    &mut self.wants,
-                ) {
-                    return None;
-                }
-                let planned = Scene {
-                    plan: &self.plan,
-                    prices: &self.prices,
-                    cone: &self.cone,
-                    sight,
-                    wants: &self.wants,
-                };
-                self.ways.find(&planned);
-                let net = best_output(&scene, &self.ways, part)?;
-                self.ways
-                    .add_goals(&scene, net, Asked::All, &mut self.goals);
-                net
-            }
-        };
+        let net = want_output(
+            &scene,
+            part,
+            &mut self.rows,
+            &mut self.ways,
+            &mut self.goals,
+            &mut self.wants,
+        )?;
         self.wants.add_each(&scene, &self.goals);
-        let planned = Scene {
-            plan: &self.plan,
-            prices: &self.prices,
-            cone: &self.cone,
-            sight,
-            wants: &self.wants,
-        };
-        let goal = match self.goals.dearest(&planned) {
+        let planned = scene.wanting(&self.wants);
+        let goal = match self.goals.costliest(&planned) {
             Some(goal) => goal,
-            None => {
-                self.ways
-                    .add_goals(&scene, net, Asked::Unknown, &mut self.goals);
-                match self.goals.dearest(&planned) {
-                    Some(goal) => goal,
-                    None => unknown_pin(&scene, part)?,
-                }
-            }
+            None => unmet_goal(&scene, &planned, part, net, &self.ways, &mut self.goals)?,
         };
         let proposed = planned.backtrace(goal)?;
         Some(
@@ -196,6 +159,55 @@ impl<'a> CheapestWay<'a> {
                 &mut self.wants,
             ),
         )
+    }
+}
+
+// The net of an observed output at which the defect may show, and the goals of a plan for it: the nearest
+// ones where it shows at its instance, and else those of a row that isn't met, and of all of the way.
+fn want_output<S: Sight>(
+    scene: &Scene<'_, S>,
+    part: u32,
+    rows: &mut RowCubes,
+    ways: &mut Ways,
+    goals: &mut Goals,
+    wants: &mut Wants,
+) -> Option<u32> {
+    goals.clear();
+    wants.clear();
+    ways.find(scene);
+    if let Some(net) = showing_output(scene, ways, part) {
+        ways.add_goals(scene, net, Asked::Nearest, goals);
+        return Some(net);
+    }
+    if !want_row(scene, rows, part, goals, wants) {
+        return None;
+    }
+    let planned = Scene {
+        plan: scene.plan,
+        prices: scene.prices,
+        cone: scene.cone,
+        sight: scene.sight,
+        wants: &*wants,
+    };
+    ways.find(&planned);
+    let net = best_output(scene, ways, part)?;
+    ways.add_goals(scene, net, Asked::All, goals);
+    Some(net)
+}
+
+// A goal where those of the plan are met: an unknown value of the way out, or else of the instance's pins.
+fn unmet_goal<S: Sight>(
+    scene: &Scene<'_, S>,
+    planned: &Scene<'_, S>,
+    part: u32,
+    net: u32,
+    ways: &Ways,
+    goals: &mut Goals,
+) -> Option<Goal> {
+    ways.add_goals(scene, net, Asked::Unknown, goals);
+    match goals.costliest(planned) {
+        Some(goal) => Some(goal),
+        None => unknown_pin(scene, part),
     }
 }
 
@@ -259,9 +271,9 @@ impl Choice for CheapestWay<'_> {
     }
 }
 
-// The bit for the dearest goal of a plan.
+// The bit for the costliest goal of a plan.
 fn bit_of<S: Sight>(scene: &Scene<'_, S>, aims: &Goals) -> Option<BitValue> {
-    match aims.dearest(scene) {
+    match aims.costliest(scene) {
         Some(goal) => scene.backtrace(goal),
         None => None,
     }

@@ -24,23 +24,23 @@ pub(crate) fn trit_of(value: bool) -> Trit {
     if value { Trit::One } else { Trit::Zero }
 }
 
-/// The dearest goal of those offered, and its price.
+/// The costliest goal of those offered, and its price.
 #[derive(Clone, Copy, Debug)]
-pub(crate) struct Dearest {
+pub(crate) struct Costliest {
     goal: Option<Goal>,
     price: u32,
 }
 
-impl Dearest {
+impl Costliest {
     /// None was offered.
     pub(crate) fn new() -> Self {
-        Dearest {
+        Costliest {
             goal: None,
             price: 0,
         }
     }
 
-    /// Takes the goal if it is dearer than the others, has a price at all and isn't out of reach.
+    /// Takes the goal if it is costlier than the others, has a price at all and isn't out of reach.
     pub(crate) fn offer(&mut self, goal: Goal, price: u32) {
         if price > self.price && price < u32::MAX {
             self.goal = Some(goal);
@@ -48,7 +48,7 @@ impl Dearest {
         }
     }
 
-    /// The dearest one.
+    /// The costliest one.
     pub(crate) fn goal(&self) -> Option<Goal> {
         self.goal
     }

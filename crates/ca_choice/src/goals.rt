@@ -1,6 +1,6 @@
 //! The goals of a plan.
 
-use crate::goal::{Dearest, Frame, Goal};
+use crate::goal::{Costliest, Frame, Goal};
 use crate::scene::Scene;
 use crate::sight::Sight;
 use ca_base::NoMemory;
@@ -74,24 +74,24 @@ impl Goals {
         }
     }
 
-    /// The dearest goal that isn't one of the first frame alone, or else the dearest of those.
-    pub(crate) fn dearest<S: Sight>(&self, scene: &Scene<'_, S>) -> Option<Goal> {
-        match self.dearest_of(scene, false) {
+    /// The costliest goal that isn't one of the first frame alone, or else the costliest of those.
+    pub(crate) fn costliest<S: Sight>(&self, scene: &Scene<'_, S>) -> Option<Goal> {
+        match self.costliest_of(scene, false) {
             Some(goal) => Some(goal),
-            None => self.dearest_of(scene, true),
+            None => self.costliest_of(scene, true),
         }
     }
 
-    // The dearest goal of the first frame alone, or of the others.
-    fn dearest_of<S: Sight>(&self, scene: &Scene<'_, S>, is_first: bool) -> Option<Goal> {
-        let mut dearest = Dearest::new();
+    // The costliest goal of the first frame alone, or of the others.
+    fn costliest_of<S: Sight>(&self, scene: &Scene<'_, S>, is_first: bool) -> Option<Goal> {
+        let mut costliest = Costliest::new();
         for place in 0..self.count {
             if let Some(goal) = self.get(place) {
                 if (goal.frame == Frame::First) == is_first {
-                    dearest.offer(goal, scene.price(goal));
+                    costliest.offer(goal, scene.price(goal));
                 }
             }
         }
-        dearest.goal()
+        costliest.goal()
     }
 }

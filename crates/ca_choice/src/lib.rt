@@ -1,5 +1,5 @@
 //! A choice of the next bit of a search: the cheapest row of the defect and the cheapest way out, and of what
-//! these want the dearest value first.
+//! these want the costliest value first.
 #![tactic(auto)]
 
 mod ahead;

@@ -4,7 +4,7 @@ use crate::cell_cubes::are_opposite;
 use crate::cone::Cone;
 use crate::costs::{NEVER, sum};
 use crate::cube::Cube;
-use crate::goal::{Dearest, Frame, Goal, trit_of};
+use crate::goal::{Costliest, Frame, Goal, trit_of};
 use crate::plan::{Plan, Source};
 use crate::prices::Prices;
 use crate::sight::Sight;
@@ -31,8 +31,19 @@ pub(crate) struct Scene<'a, S: Sight> {
     pub(crate) wants: &'a Wants,
 }
 
-impl<S: Sight> Scene<'_, S> {
-    /// The price of a goal. What the plan wants otherwise is dearer.
+impl<'a, S: Sight> Scene<'a, S> {
+    /// The same, where a plan wants these.
+    pub(crate) fn wanting(&self, wants: &'a Wants) -> Scene<'a, S> {
+        Scene {
+            plan: self.plan,
+            prices: self.prices,
+            cone: self.cone,
+            sight: self.sight,
+            wants,
+        }
+    }
+
+    /// The price of a goal. What the plan wants otherwise is costlier.
     pub(crate) fn price(&self, goal: Goal) -> u32 {
         let price = self.prices.of(self.sight, goal);
         if 0 < price && self.wants.opposes(goal) {
@@ -81,7 +92,7 @@ impl<S: Sight> Scene<'_, S> {
     }
 
     /// An unset bit that brings the goal nearer, and its value: at each instance the cheapest cube is wanted,
-    /// and of it the dearest value.
+    /// and of it the costliest value.
     pub(crate) fn backtrace(&self, goal: Goal) -> Option<BitValue> {
         let mut goal = goal;
         for _ in 0..self.plan.net_count() {
@@ -122,10 +133,10 @@ impl<S: Sight> Scene<'_, S> {
         }
     }
 
-    // The dearest goal on the instance's pins that the cheapest cube for the goal wants.
+    // The costliest goal on the instance's pins that the cheapest cube for the goal wants.
     fn goal_before(&self, goal: Goal, part: u32, output: usize) -> Option<Goal> {
         match self.cheapest(goal, part, output) {
-            Some(cube) => self.dearest_of(goal.frame, part, cube),
+            Some(cube) => self.costliest_of(goal.frame, part, cube),
             None => None,
         }
     }
@@ -156,16 +167,16 @@ impl<S: Sight> Scene<'_, S> {
         cost
     }
 
-    // The dearest goal of a cube.
-    fn dearest_of(&self, frame: Frame, part: u32, cube: Cube) -> Option<Goal> {
-        let mut dearest = Dearest::new();
+    // The costliest goal of a cube.
+    fn costliest_of(&self, frame: Frame, part: u32, cube: Cube) -> Option<Goal> {
+        let mut costliest = Costliest::new();
         for (pin, net) in self.plan.inputs(part).iter().enumerate() {
             if let Some(value) = self.plan.literal(part, cube, pin) {
                 let net = *net;
                 let goal = Goal { frame, net, value };
-                dearest.offer(goal, self.price(goal));
+                costliest.offer(goal, self.price(goal));
             }
         }
-        dearest.goal()
+        costliest.goal()
     }
 }
