@@ -7,6 +7,7 @@ mod credits;
 mod lanes;
 mod laws;
 mod limit;
+mod place_sets;
 mod round;
 mod simulator;
 mod verdict;

@@ -1,19 +1,18 @@
 //! The verdicts so far, and which defects are left to be tried with the pair in hand.
-
 ghost use Rattle.std.specs.Prelude.{ℕ, ◌≡◌, ◌↔◌, ◌<◌, ◌≤◌, ◌^◌, ◌+◌, length, replicate, slice_set};
 ghost use Rattle.std.specs.Prelude.{true, false, List, Bool, None, Some, IsSome, IfOk, IsTrue, IsFalse};
-ghost use Rattle.ca_places.specs.PlaceSet.{Has, HasRoomFor, IsAsRoomy};
+ghost use Rattle.ca_places.specs.PlaceSet.{Has, HasRoomFor};
 ghost use Rattle.ca_flat.specs.declared.chip_defect.ChipDefect.{ChipDefect};
 ghost use Rattle.ca_code.specs.Filled.{trits_of};
 ghost use Rattle.ca_credit.specs.Defects.{Task, IsDefectAt};
-ghost use Rattle.ca_credit.specs.Table.{verdict_at, is_open, CreditsIn, CreditsPair};
-ghost use Rattle.ca_credit.specs.Table.{credit_count};
+ghost use Rattle.ca_credit.specs.Table.{verdict_at, is_open, CreditsIn, CreditsPair, credit_count};
 ghost use Rattle.ca_credit.specs.code.Aims.{AimsAtSuspect, AimsUpTo};
 ghost use Rattle.ca_credit.specs.Detection.{IsAnswer};
 ghost use Rattle.ca_credit.specs.code.Round.{IsPartOf, IsRound, IsWithout, TriesMore};
 
 use crate::by_lasts::ByLasts;
 use crate::credit::detecting_output;
+use crate::place_sets::{all_places, clear, insert_between, remove_before};
 use crate::simulator::Simulator;
 use crate::verdict::Verdict;
 use ca_base::NoMemory;
@@ -28,18 +27,6 @@ pub(crate) struct Round {
     pub(crate) verdicts: Vec<Option<Verdict>>,
     pub(crate) open_places: PlaceSet,
     pub(crate) left: PlaceSet,
-}
-
-// The set of the first `count` places.
-fn all_places(alloc: Global, count: usize) -> Result<PlaceSet, NoMemory>
-    ensures all { IfOk result (λ set. (place : ℕ) → Has set place ↔ (place < count)) }
-    ensures room { IfOk result (λ set. HasRoomFor set count) }
-{
-    let mut set = PlaceSet::reserve(alloc, count)?;
-    for place in 0..count {
-        set.insert(place);
-    }
-    Ok(set)
 }
 
 // No verdicts.
@@ -401,51 +388,5 @@ impl Round {
     {
         let end = self.verdicts.len();
         self.try_in(sim, pair, number, 0, end)
-    }
-}
-
-// Takes all places out of a set, which are below an end.
-fn clear(set: &mut PlaceSet, end: usize)
-    requires { (place : ℕ) → Has set.old place → place < end }
-    ensures none { (place : ℕ) → ¬ (Has set.new place) }
-    ensures room { IsAsRoomy set.new set.old }
-{
-    let mut from = 0;
-    'places: while let Some(place) = set.next(from) {
-        set.remove(place);
-        from = place + 1;
-    }
-}
-
-// Takes the places before one out of a set.
-fn remove_before(set: &mut PlaceSet, start: usize)
-    ensures rest { (place : ℕ) → Has set.new place ↔ (Has set.old place × (start ≤ place)) }
-    ensures room { IsAsRoomy set.new set.old }
-{
-    let mut from = 0;
-    'places: while let Some(place) = set.next(from) {
-        if place >= start {
-            return;
-        }
-        set.remove(place);
-        from = place + 1;
-    }
-}
-
-// Puts the places of a set from one on up to an end into one that has none.
-fn insert_between(into: &mut PlaceSet, set: &PlaceSet, start: usize, end: usize)
-    requires start { start ≤ end }
-    requires none { (place : ℕ) → ¬ (Has into.old place) }
-    requires room { IsAsRoomy into.old set.now }
-    ensures part { IsPartOf into.new set.now start end }
-    ensures room { IsAsRoomy into.new into.old }
-{
-    let mut from = start;
-    'places: while let Some(place) = set.next(from) {
-        if place >= end {
-            return;
-        }
-        into.insert(place);
-        from = place + 1;
     }
 }

@@ -21,7 +21,7 @@ ghost use Rattle.ca_every_vector.specs.code.Masks.{AreMore, mask_at};
 ghost use Rattle.ca_every_vector.specs.code.Region.{IsRegion, IsTried};
 
 use crate::lane_region::{are_ascending, find_lanes};
-use crate::lane_spread::{lanes_all_stay, restore_lanes};
+use crate::lane_stays::{lanes_all_stay, restore_lanes};
 use crate::lane_vectors::lanes_over;
 use crate::lists::entry;
 use crate::masks::add;

@@ -17,7 +17,7 @@ use crate::lists::{entry, restore};
 use crate::masks::add;
 use crate::region::{are_known, find_values};
 use crate::regions::Region;
-use crate::spread::all_stay;
+use crate::stays::all_stay;
 use ca_base::NoMemory;
 use ca_net::Trit;
 use ca_static::LastTable;

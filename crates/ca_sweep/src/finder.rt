@@ -1,35 +1,36 @@
 //! Where a pair detects a defect, by last values alone.
-
-ghost use Rattle.std.specs.Prelude.{ℕ, ◌+◌, ◌-◌, ◌≡◌, ◌≢◌, ◌<◌, ◌≤◌, ◌^◌, ◌↔◌, length, IfOk, IfSome};
+ghost use Rattle.std.specs.Prelude.{ℕ, ◌+◌, ◌-◌, ◌≡◌, ◌<◌, ◌≤◌, ◌^◌, length, IfOk, IfSome};
 ghost use Rattle.std.specs.Prelude.{IsTrue, None, Some};
 ghost use Rattle.std.specs.List.{All};
-ghost use Rattle.ca_net.specs.declared.trit.Trit.TheVariants.{X};
 ghost use Rattle.ca_net.specs.declared.wave.Wave.{Wave};
-ghost use Rattle.ca_net.specs.Wave.{IsWave};
 ghost use Rattle.ca_net.specs.Circuit.{IsWellFormed};
 ghost use Rattle.ca_net.specs.State.{value_at};
 ghost use Rattle.ca_flat.specs.Chip.{cell_at, outputs_at};
 ghost use Rattle.ca_sweep.specs.code.Asked.{IsAsked, AreAsked, AreNowhereAt};
-ghost use Rattle.ca_sweep.specs.code.Rows.{AreGoodsAt, AreRows};
 ghost use Rattle.ca_sweep.specs.code.Coded.{IsSeenCoded};
-ghost use Rattle.ca_sweep.specs.code.Hand.{IsCodedAt, IsHand, IsTakenAt};
+ghost use Rattle.ca_sweep.specs.code.Hand.{IsCodedAt};
 ghost use Rattle.ca_flat.specs.Flat.{flat};
 ghost use Rattle.ca_flips.specs.Flips.{AreLastsOf};
 ghost use Rattle.ca_sim.specs.Seen.{AreNetWaves};
 ghost use Rattle.ca_view.specs.Linked.{IsPlaced, IsPlacedDefect, place_in};
 ghost use Rattle.ca_view.specs.Places.{cell_number};
-ghost use Rattle.ca_sweep.specs.Seen.{IsForChip, lasts_in};
+ghost use Rattle.ca_sweep.specs.Seen.{IsForChip, lasts_in, IsLanedFor};
 ghost use Rattle.ca_sweep.specs.Found.{IsFound, IsNextFound, IsUndetectedAt};
 ghost use Rattle.ca_sweep.specs.Spans.{AreOfInstance, AreOfCell};
 ghost use Rattle.ca_places.specs.PlaceSet.{Has};
-ghost use Rattle.ca_sweep.specs.code.Faulty.{AreFaulty, AreWavesAt, AreFlipsOf};
+ghost use Rattle.ca_sweep.specs.code.Faulty.{AreFlipsOf, IsFlippedAt};
+ghost use Rattle.ca_sweep.specs.code.Found.{reported};
+ghost use Rattle.ca_sweep.specs.code.LanedFinder.{IsAtLane};
 
-use crate::codes::{Goods, flips_of_code, goods_at, is_known};
+use crate::codes::goods_at;
 use crate::faulty::Faulty;
 use crate::firsts::are_opposite;
 use crate::flip_finder::FlipFinder;
 use crate::hand::Hand;
 use crate::lanes::{Lanes, NO_LANE, NoLanes};
+use crate::looks::{
+    are_definite, is_nowhere, is_unseen, load, pin_waves, reported, see_coded, take,
+};
 use crate::rows::Rows;
 use crate::seen::{Flips, NO_FLIPS, Seen};
 use crate::spans::{DefectSpans, SpanFound};
@@ -37,10 +38,9 @@ use crate::sweep::Sweep;
 use ca_base::NoMemory;
 use ca_flat::ChipDefect;
 use ca_flips::{detected_is_filled_in, detected_is_flipped, swept_are_flipped};
-use ca_net::{Trit, Wave};
+use ca_net::Wave;
 use ca_places::PlaceSet;
 use ca_planes::{LANES, both, is_none};
-use ca_response::PinWaves;
 use ca_sim::{Bits, NetWaves};
 use ca_view::View;
 use std::alloc::Global;
@@ -465,153 +465,4 @@ impl FlipFinder for Finder<'_> {
     fn keep<B: Bits>(&mut self, _lane: usize, _bits: &B) {}
 
     fn turn_to(&mut self, _lane: usize) {}
-}
-
-ghost use Rattle.ca_sweep.specs.code.Faulty.{IsFlippedAt};
-ghost use Rattle.ca_sweep.specs.code.Found.{reported};
-
-// Takes an instance in hand if it isn't, and is clear. Answers whether it is in hand. Takes no memory.
-fn take(
-    chip: &View<'_>,
-    sweep: &Sweep<'_>,
-    faulty: &mut Faulty,
-    rows: &mut Rows,
-    waves: &[Wave],
-    hand: &mut Hand,
-    u: usize,
-) -> bool
-    requires placed { IsPlaced chip.now.core (place_in chip.now.ranks) u }
-    requires chip { sweep.now.chip ≡ chip.now.core }
-    requires places { sweep.now.places ≡ chip.now.ranks }
-    requires nets { length waves.now ≡ length chip.now.core.nets }
-    requires faulty { AreFaulty chip.now.core (place_in chip.now.ranks) (cell_number chip.now.chip)
-        faulty.old }
-    requires rows { AreRows chip.now.core (place_in chip.now.ranks) (cell_number chip.now.chip) rows.old }
-    requires hand { IsHand chip.now.core (cell_number chip.now.chip) (value_at sweep.now.lasts) waves.now
-        rows.old.slots.items hand.old }
-
-    ensures taken { IsTrue result → IsTakenAt chip.now.core (cell_number chip.now.chip)
-        (value_at sweep.now.lasts) waves.now rows.new.slots.items hand.new u }
-    ensures faulty { AreFaulty chip.now.core (place_in chip.now.ranks) (cell_number chip.now.chip)
-        faulty.new }
-    ensures rows { AreRows chip.now.core (place_in chip.now.ranks) (cell_number chip.now.chip) rows.new }
-    ensures hand { IsHand chip.now.core (cell_number chip.now.chip) (value_at sweep.now.lasts) waves.now
-        rows.new.slots.items hand.new }
-{
-    chip.linked();
-    if hand.has(u) {
-        return true;
-    }
-    if !sweep.is_clear(u) {
-        return false;
-    }
-    match pin_waves(chip, waves, u) {
-        Some(pins) => {
-            let goods = goods_at(chip, sweep, u);
-            let slot = rows.find(chip, faulty, u, pins, goods);
-            hand.take(u, rows.number(chip, u), slot, goods);
-            true
-        }
-        None => false,
-    }
-}
-
-// What is found of a defect of an instance, with these good last values at its output pins, that ends with
-// what a code says.
-fn see_coded(chip: &View<'_>, sweep: &mut Sweep<'_>, u: usize, goods: Goods, code: u8) -> Seen
-    requires placed { IsPlaced chip.now.core (place_in chip.now.ranks) u }
-    requires chip { sweep.old.chip ≡ chip.now.core }
-    requires places { sweep.old.places ≡ chip.now.ranks }
-    requires goods { AreGoodsAt chip.now.core (value_at sweep.old.lasts) u goods }
-    ensures found { IsSeenCoded chip.now.core (value_at sweep.old.lasts) u code result }
-    ensures kept { sweep.new ≡ sweep.old }
-{
-    chip.linked();
-    let outputs = chip.cell(u).outputs();
-    let flips = flips_of_code(goods, code);
-    let seen = sweep.see(u, flips);
-    reported(seen, is_known(code, outputs))
-}
-
-// Whether it was found that no flip of an instance's output pins is seen in a lane, if there is such a lane.
-fn is_unseen<L: Lanes>(lanes: &L, lane: usize, u: usize) -> bool
-    requires { IsPlaced (L.laned lanes.now).chip (place_in (L.laned lanes.now).places) u }
-    ensures within { IsTrue result → lane < 64 }
-    ensures unseen { (lasts : List Trit) → IsAtLane (L.laned lanes.now) lane lasts → IsTrue result
-        → AreUnseen (L.laned lanes.now).chip (value_at lasts) u }
-{
-    if lane >= 64 {
-        return false;
-    }
-    lanes.is_unseen(u, lane)
-}
-
-ghost use Rattle.ca_net.specs.declared.trit.Trit.{Trit};
-ghost use Rattle.ca_sweep.specs.Seen.{AreUnseen, IsLanedFor};
-ghost use Rattle.ca_sweep.specs.code.LanedFinder.{IsAtLane};
-ghost use Rattle.std.specs.Prelude.{List};
-
-// Whether nothing is detected.
-fn is_nowhere(seen: Seen) -> bool
-    ensures { IsTrue result → seen ≡ Nowhere }
-{
-    match seen {
-        Seen::Nowhere => true,
-        Seen::At(_) | Seen::Undecided => false,
-    }
-}
-
-ghost use Rattle.ca_sweep.specs.declared.seen.Seen.TheVariants.{Nowhere};
-
-// What is answered where flips are seen so, and all last values of the instance's outputs are known or not.
-fn reported(seen: Seen, is_known: bool) -> Seen
-    ensures { result ≡ reported is_known seen }
-{
-    match (seen, is_known) {
-        (Seen::At(_), false) => Seen::Undecided,
-        (seen, true | false) => seen,
-    }
-}
-
-// Whether the last value of each wave is definite.
-fn are_definite(waves: &[Wave]) -> bool
-    ensures { IsTrue result ↔ All (λ (wave : Wave). wave.last ≢ X) waves.now }
-{
-    waves.iter().all(|wave| wave.last != Trit::X)
-}
-
-// Whether the middle value is unknown or the first one, and unknown or the last one.
-fn is_wave(wave: Wave) -> bool
-    ensures { IsTrue result → IsWave wave }
-{
-    wave.mid == Trit::X || (wave.mid == wave.first && wave.mid == wave.last)
-}
-
-// The good waves of an instance's input nets. All are waves, so that there always are some.
-fn pin_waves(chip: &View<'_>, waves: &[Wave], u: usize) -> Option<PinWaves>
-    requires placed { IsPlaced chip.now.core (place_in chip.now.ranks) u }
-    requires nets { length waves.now ≡ length chip.now.core.nets }
-    ensures { IfSome result (λ pins. AreWavesAt chip.now.core waves.now u pins.items) }
-{
-    chip.linked();
-    let mut pins = PinWaves::new();
-    for pin in 0..chip.inputs_at(u) {
-        let wave = waves[chip.pin_net(u, pin)];
-        if !is_wave(wave) {
-            return None;
-        }
-        pins.push(wave);
-    }
-    Some(pins)
-}
-
-// Takes over the good waves.
-fn load<V: NetWaves>(waves: &V, into: &mut Vec<Wave>)
-    requires { length into.old.items ≡ length (V.seen waves.now).chip.nets }
-    ensures { into.new.items ≡ (V.seen waves.now).good }
-{
-    waves.exact();
-    for net in 0..into.len() {
-        into[net] = waves.good(net);
-    }
 }

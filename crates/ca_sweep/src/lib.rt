@@ -18,6 +18,7 @@ mod lane_sweep;
 mod lane_values;
 mod laned_finder;
 mod lanes;
+mod looks;
 mod pinned;
 mod row;
 mod rows;
