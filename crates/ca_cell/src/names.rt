@@ -25,7 +25,7 @@ pub(crate) struct Parts<'a> {
 }
 
 /// The name of a defect of the cell, in upper case.
-pub fn name(alloc: Global, cell: &Cell, defect: Defect) -> Result<Text, NoMemory>
+pub fn defect_name(alloc: Global, cell: &Cell, defect: Defect) -> Result<Text, NoMemory>
     requires { IsDefectOf cell.now defect }
     ensures { IfOk result (λ text. text ≡ name_of cell.now defect) }
 {
@@ -43,7 +43,7 @@ pub fn defect_names(alloc: Global, cell: &Cell, list: &DefectList) -> Result<Nam
 {
     let mut names = Names::new(alloc);
     for defect in list.as_slice() {
-        names.push(name(alloc, cell, *defect)?)?;
+        names.push(defect_name(alloc, cell, *defect)?)?;
     }
     Ok(names)
 }

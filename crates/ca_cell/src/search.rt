@@ -16,7 +16,7 @@ use ca_net::{DeviceId, Network, NodeId};
 
 /// The first defect of the cell that the text names in upper or lower case; none where the text is the name
 /// of no defect. It takes no memory.
-pub fn parse(cell: &Cell, text: &[u8]) -> Option<Defect>
+pub fn parse_defect(cell: &Cell, text: &[u8]) -> Option<Defect>
     ensures first { result ≡ find (is_called cell.now text.now) (defects_of cell.now) }
     ensures some { IfSome result (λ defect. name_of cell.now defect ≡ upper_case text.now) }
     ensures listed { IfSome result (IsDefectOf cell.now) }

@@ -4,7 +4,7 @@ ghost use Rattle.std.specs.List.{All};
 ghost use Rattle.ca_cell.specs.List.{IsDefectOf};
 
 use crate::examples::{LOWER_NAND2, Part, cell_of, try_network};
-use ca_cell::{Cell, Defect, DefectList, Overlay, Row, Rows, defects, name, parse};
+use ca_cell::{Cell, Defect, DefectList, Overlay, Row, Rows, defect_name, defects, parse_defect};
 use ca_net::DeviceKind::{D, N, P};
 use ca_net::{BRIDGE, DeviceId, INNER_NODE, NodeId, NodeKind, OUTPUT_NET, STRONGEST};
 use std::alloc::Global;
@@ -36,11 +36,11 @@ static TYPED: [(&[u8], Option<Defect>); 12] = [
 fn try_name(rt: &impl Abort, alloc: Global, cell: &Cell, defect: Defect, wanted: &[u8])
     requires { IsDefectOf cell.now defect }
 {
-    let text = name(alloc, cell, defect).expect(rt, "memory");
+    let text = defect_name(alloc, cell, defect).expect(rt, "memory");
     let is_wanted = text.is(wanted);
     drop(text);
     assert!(rt; is_wanted, "{wanted:?}");
-    assert_eq!(rt; parse(cell, wanted), Some(defect), "{wanted:?}");
+    assert_eq!(rt; parse_defect(cell, wanted), Some(defect), "{wanted:?}");
 }
 
 // Asserts the names of a list of defects.
@@ -69,7 +69,7 @@ fn defects_of_a_nand_by_name_in_order(rt: HostRuntime) {
 fn typed_names_are_found_in_any_case(rt: HostRuntime) {
     let cell = cell_of(&rt, rt.alloc(), &LOWER_NAND2);
     for (text, expected) in &TYPED {
-        assert_eq!(rt; parse(&cell, text), *expected, "{text:?}");
+        assert_eq!(rt; parse_defect(&cell, text), *expected, "{text:?}");
     }
     drop(cell);
 }

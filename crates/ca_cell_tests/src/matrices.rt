@@ -4,7 +4,7 @@ ghost use Rattle.std.specs.Prelude.{◌≡◌, length};
 ghost use Rattle.ca_matrix.specs.Matrix.{shape_of, IsRowOf};
 
 use crate::examples::{AND2, NAND2, cell_of};
-use ca_cell::{Row, Rows, defects, parse};
+use ca_cell::{Row, Rows, defects, parse_defect};
 use ca_matrix::{Matrix, exposing};
 use ca_net::Trit;
 use ca_net::Trit::{One, X, Zero};
@@ -139,7 +139,7 @@ fn entries_of_a_nand(rt: HostRuntime) {
 fn a_bridge_inside_an_and_is_not_exposable(rt: HostRuntime) {
     let alloc = rt.alloc();
     let cell = cell_of(&rt, alloc, &AND2);
-    let bridge = parse(&cell, b"Z=NB").expect(&rt, "a defect");
+    let bridge = parse_defect(&cell, b"Z=NB").expect(&rt, "a defect");
     let list = defects(alloc, &cell).expect(&rt, "memory");
     assert_eq!(rt; list.len(), 29);
     assert_eq!(rt; list.get(26), bridge);

@@ -1,7 +1,7 @@
 //! The waves of a two-input NAND, with an open drain and without, and of two inverters in one cell.
 
 use crate::examples::{INVERTERS, NAND2, cell_of};
-use ca_cell::{Overlay, parse};
+use ca_cell::{Overlay, parse_defect};
 use ca_net::Trit::{One, X, Zero};
 use ca_net::{Network, Trit, Wave};
 use ca_response::{CellNet, OutWaves, pairs, respond};
@@ -58,7 +58,7 @@ fn waves_of_a_nand_with_an_open_drain_and_without(rt: HostRuntime) {
     let alloc = rt.alloc();
     let cell = cell_of(&rt, alloc, &NAND2);
     try_waves(&rt, alloc, &cell, &GOOD);
-    let defect = parse(&cell, b"MP1(D)").expect(&rt, "a defect");
+    let defect = parse_defect(&cell, b"MP1(D)").expect(&rt, "a defect");
     try_waves(&rt, alloc, &Overlay::new(&cell, defect), &OPEN_DRAIN);
     drop(cell);
 }

@@ -44,7 +44,7 @@ pub fn name_of(alloc: Global, chip: &Chip, defect: ChipDefect) -> Result<Text, N
         name_of (cell_at (core_of chip.now) defect.instance) defect.defect ≡ name) }
 {
     let cell = chip.cell_of(InstanceId(defect.instance));
-    ca_cell::name(alloc, cell, defect.defect)
+    ca_cell::defect_name(alloc, cell, defect.defect)
 }
 
 // The verdict in a report.

@@ -12,7 +12,7 @@ ghost use Rattle.ca_load.specs.Files.{OnlyReads};
 use crate::inputs::{find_cell, typed_words};
 use crate::outputs::values_of;
 use crate::pin_values::PinValues;
-use ca_cell::{Cell, Overlay, parse};
+use ca_cell::{Cell, Overlay, parse_defect};
 use ca_fault::Fault;
 use ca_lex::Text;
 use ca_load::open_library;
@@ -63,7 +63,7 @@ fn evaluate(alloc: Global, cell: &Cell, request: &PairWords<'_>) -> Result<PinVa
     if request.defect == "-" {
         return Ok(values_of(alloc, cell, first, last)?);
     }
-    let Some(defect) = parse(cell, request.defect.as_bytes()) else {
+    let Some(defect) = parse_defect(cell, request.defect.as_bytes()) else {
         return Err(Fault::NoDefect {
             word: Text::from_bytes(alloc, request.defect.as_bytes())?,
         });

@@ -7,7 +7,7 @@ ghost use Rattle.ca_request.specs.Vectors.{dash};
 ghost use Rattle.ca_request.specs.Asked.{AreBothOrNeither, IsAskedDefect, IsLibraryDefect, IsDefectStage};
 ghost use Rattle.ca_request.specs.Asked.{IsInstanceStage};
 
-use ca_cell::parse;
+use ca_cell::parse_defect;
 use ca_fault::Fault;
 use ca_flat::ChipDefect;
 use ca_flatten::cell_at;
@@ -29,7 +29,7 @@ fn defect_of(
     ensures is_defect { IfOk result (IsLibraryDefect chip.now) }
     ensures cause { IfErr result (IsDefectStage chip.now instance.now defect.now) }
 {
-    match parse(cell_at(chip, u), defect.as_bytes()) {
+    match parse_defect(cell_at(chip, u), defect.as_bytes()) {
         Some(defect) => Ok(Some(ChipDefect {
             instance: u.0,
             defect,

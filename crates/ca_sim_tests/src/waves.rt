@@ -3,7 +3,7 @@
 ghost use Rattle.std.specs.Prelude.{◌<◌};
 
 use crate::chips::{INV, Instances, KEEP, NAND2, NOR4, chip};
-use ca_cell::parse;
+use ca_cell::parse_defect;
 use ca_flat::ChipDefect;
 use ca_linked::Chip;
 use ca_net::{State, Trit, Wave};
@@ -36,7 +36,7 @@ fn aim(rt: &impl Abort, sim: &mut Sim<'_>, u: usize, name: &[u8]) {
         u < 65_536 && u < chip.instances() && chip.rank(u) > 0,
         "instance {u}"
     );
-    let defect = parse(chip.cell(u), name).expect(rt, "a defect");
+    let defect = parse_defect(chip.cell(u), name).expect(rt, "a defect");
     sim.aim(Some(ChipDefect {
         instance: u as u32,
         defect,

@@ -1,5 +1,5 @@
 use Rattle.ca_cell.proofs.FindLemmas.{named_defect, found_is_listed, no_name}
-use Rattle.ca_cell.proofs.search.parse.Goals as goal
+use Rattle.ca_cell.proofs.search.parse_defect.Goals as goal
 
 pub returns-clause-some : goal.returns-clause-some
 returns-clause-some c = named_defect c.args.cell.now c.args.text.now c.find_listed.result c.find_listed.ensures
