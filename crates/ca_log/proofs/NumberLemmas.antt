@@ -9,19 +9,7 @@ use Rattle.std.proofs.lemmas.Fmt.{parse-decimal, IsAscii-decimal, decimal_inject
 use Rattle.std.proofs.lemmas.Slice.Eq.{bytes_eq-Decides}
 use Rattle.std.proofs.lemmas.Str.{IsUtf8-from_ascii}
 use Rattle.ca_log.specs.LogText.{number_below}
-use Rattle.ca_log.specs.code.Number.{IsNumber, IsNoNumber}
-
--- a number is read as it is written
-pub written_is_read : {E : Type 0} (word : List ℕ) (number : ℕ) (answer : Result ℕ E) → number < 2 ^ 32
-    → word ≡ decimal number
-    → ParsesUnsigned 32 10 word answer → answer ≡ Ok number
-written_is_read word number answer few is parses = parse-decimal 32 number word answer few
-    (omega (arith, few)) is parses
-
--- how a number is written is text
-pub written_is_text : (word : List ℕ) (number : ℕ) → number < 2 ^ 32 → word ≡ decimal number → IsUtf8 word
-written_is_text word number few is = subst IsUtf8 (sym is)
-    (IsUtf8-from_ascii (decimal number) (IsAscii-decimal number (omega (arith, few))))
+use Rattle.ca_csv.specs.Fields.{IsNumber, IsNoNumber}
 
 -- the digits of a number are those of none but it
 pub below_found : (count : ℕ) (word : List ℕ) (number : ℕ) → count < 2 ^ 32 → number < count → IsNumber word number

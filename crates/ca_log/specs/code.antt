@@ -1,4 +1,3 @@
 -- Words of the code: what its invariants and private contracts say. No public claim rests on them.
-pub mod Number
 pub mod Lookup
 pub mod Into

@@ -1,36 +1,18 @@
 //! The fields of a record, and the place that they name.
 
-ghost use Rattle.std.specs.Prelude.{◌≡◌, ◌<◌, ◌^◌, length, MatchOption};
+ghost use Rattle.std.specs.Prelude.{◌≡◌, ◌<◌, ◌^◌, length};
 ghost use Rattle.std.specs.List.{All};
 ghost use Rattle.std.specs.Str.{bytes_eq};
 ghost use Rattle.csv.specs.Records.{fields_of};
 ghost use Rattle.ca_log.specs.LogText.{is_header, is_definite, is_expected, place_with, place_in};
-ghost use Rattle.ca_log.specs.code.Into.{AreNotTwo, AreTwo};
 
 use crate::lookup::Lookup;
 use crate::number::number_below;
 use crate::record::LogRecord;
 use ca_base::List;
+use ca_csv::two_fields;
 use ca_net::Trit;
 use csv::ByteRecord;
-
-// The fields of a record of two.
-#[tactic(auto, using(crate::proofs::FieldLemmas::are_two, crate::proofs::FieldLemmas::field_within))]
-fn two_fields(fields: &ByteRecord) -> Option<(&[u8], &[u8])>
-    ensures { MatchOption result (AreNotTwo (fields_of fields.now))
-        (λ two. AreTwo (fields_of fields.now) two.0.now two.1.now) }
-{
-    if fields.len() != 2 {
-        return None;
-    }
-    let Some(one) = fields.get(0) else {
-        unreachable!()
-    };
-    let Some(other) = fields.get(1) else {
-        unreachable!()
-    };
-    Some((one, other))
-}
 
 // Whether a field is this word.
 fn is(field: &[u8], word: &[u8]) -> bool

@@ -6,26 +6,7 @@ use Rattle.std.proofs.lemmas.Nat.{mul-lt}
 use Rattle.csv.specs.Records.{field_at}
 use Rattle.ca_cell.specs.declared.strength.Ratio.{Ratio}
 use Rattle.ca_strengths.specs.StrengthText.{is_header, ratio_with, ratio_in, table_with}
-use Rattle.ca_strengths.specs.code.Reading.{AreTwo}
-
--- there is a field at each place within
-pub field_within : (xs : List (List ℕ)) (i : ℕ) → i < length xs → field_at xs i ≡ None → ⊥
-unfolding field_at
-field_within [] i below none = omega arith
-field_within (y ∷ ys) zero below none = cc
-field_within (y ∷ ys) (suc i) below none = field_within ys i (omega arith) none
-
--- two fields are all of a record of two
-pub are_two : (xs : List (List ℕ)) (one other : List ℕ) → length xs ≡ 2 → field_at xs 0 ≡ Some one
-    → field_at xs 1 ≡ Some other → AreTwo xs one other
-unfolding field_at
-are_two [] one other two first second = absurd (omega (arith, two))
-are_two (x ∷ []) one other two first second = absurd (omega (arith, two))
-are_two (x ∷ y ∷ []) one other two first second =
-    let same : x ≡ one = cc in
-    let too : y ≡ other = cc in
-    (λ j. same j ∷ too j ∷ [])
-are_two (x ∷ y ∷ z ∷ zs) one other two first second = absurd (omega (arith, two))
+use Rattle.ca_csv.specs.Fields.{AreTwo}
 
 -- which two fields are a header
 pub header_of_two : (xs : List (List ℕ)) (one other : List ℕ) → AreTwo xs one other

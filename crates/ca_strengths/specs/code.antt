@@ -1,3 +1,2 @@
 -- Words of the code: what its private contracts say. No public claim rests on them.
-pub mod Number
 pub mod Reading

@@ -1,34 +1,16 @@
 //! The fields of a record, and the ratio that they are.
 
-ghost use Rattle.std.specs.Prelude.{◌≡◌, [], ℕ, length, MatchOption};
+ghost use Rattle.std.specs.Prelude.{◌≡◌, [], ℕ, length};
 ghost use Rattle.std.specs.List.{list_all};
 ghost use Rattle.std.specs.Str.{bytes_eq};
 ghost use Rattle.csv.specs.Records.{fields_of};
 ghost use Rattle.ca_strengths.specs.StrengthText.{is_header, ratio_with, ratio_in, is_above, may_follow};
 ghost use Rattle.ca_strengths.specs.StrengthText.{table_with};
-ghost use Rattle.ca_strengths.specs.code.Reading.{AreNotTwo, AreTwo};
 
 use crate::number::{MOST_NUMBER, number_up_to};
 use ca_cell::{Ratio, StrengthTable};
+use ca_csv::two_fields;
 use csv::ByteRecord;
-
-// The fields of a record of two.
-#[tactic(auto, using(crate::proofs::RatioLemmas::are_two, crate::proofs::RatioLemmas::field_within))]
-fn two_fields(fields: &ByteRecord) -> Option<(&[u8], &[u8])>
-    ensures { MatchOption result (AreNotTwo (fields_of fields.now))
-        (λ two. AreTwo (fields_of fields.now) two.0.now two.1.now) }
-{
-    if fields.len() != 2 {
-        return None;
-    }
-    let Some(one) = fields.get(0) else {
-        unreachable!()
-    };
-    let Some(other) = fields.get(1) else {
-        unreachable!()
-    };
-    Some((one, other))
-}
 
 // Whether a field is this word.
 fn is(field: &[u8], word: &[u8]) -> bool

@@ -1,6 +1,5 @@
 -- What is read into a log that grows.
 use Rattle.std.specs.Prelude.{ℕ, ◌≡◌, Bool, true, false, List, Option, Some, None, Result, Ok, Err, ⊤}
-use Rattle.std.specs.Prelude.{◌≢◌, length, ◌∷◌, []}
 use Rattle.ca_log.specs.declared.record.LogRecord.{LogRecord}
 use Rattle.ca_log.specs.declared.fault.LogFault.{LogFault}
 use Rattle.ca_log.specs.declared.fault.LogFault.TheVariants as fault
@@ -16,11 +15,3 @@ ReadsInto (Err fault.NoMemory) log wanted = Unit {0}
 abbrev pub Joins : Bool → Option (List LogRecord) → List LogRecord → Type 0
 Joins true wanted log = wanted ≡ Some log
 Joins false wanted log = wanted ≡ None
-
--- the record has other than two fields
-abbrev pub AreNotTwo : List (List ℕ) → Type 0
-AreNotTwo fields = length fields ≢ 2
-
--- these are the two fields
-abbrev pub AreTwo : List (List ℕ) → List ℕ → List ℕ → Type 0
-AreTwo fields one other = fields ≡ one ∷ other ∷ []

@@ -1,5 +1,5 @@
-use Rattle.ca_log.proofs.NumberLemmas.{written_is_text}
-use Rattle.ca_log.proofs.number.number_of.Goals as goal
+use Rattle.ca_csv.proofs.FieldLemmas.{written_is_text}
+use Rattle.ca_csv.proofs.number.decimal_number.Goals as goal
 
 pub returns-in_default : goal.returns-in_default
 returns-in_default c = λ number few is. c.in_default.ensures.cases.0
