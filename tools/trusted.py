@@ -4,14 +4,15 @@
 usage: tools/trusted.py           # writes docs/TRUSTED.md
        tools/trusted.py --check   # says where the page is out of date; the status is then 1
 
-The page has two parts: the promise of test generation (`IsGood`), and then what `Ends` adds, which says how every command ends. Files stand in
-reading order: each after those whose words it uses. Types that are declared in the code are named with their file, and count no line here.
-Python 3.9 or later, no packages.
+The page has two parts: the promise of test generation (`IsGood`), and then what `Ends` adds, which says how every
+command ends. Files stand in reading order: each after those whose words it uses. Types that are declared in the
+code are named with their file, and count no line here. Python 3.9 or later, no packages.
 """
 import collections
 import os
 import re
 import sys
+import textwrap
 
 TOP = os.path.dirname(os.path.dirname(os.path.abspath(__file__)))
 PAGE = f"{TOP}/docs/TRUSTED.md"
@@ -127,11 +128,17 @@ def in_order(files, start, wanted):
     return order
 
 
+def wrapped(text):
+    """The lines of a paragraph."""
+    return textwrap.wrap(text, 110, break_long_words=False, break_on_hyphens=False)
+
+
 def page_text():
     files = read_files()
-    out = ["# What has to be believed", "",
-           "The words of `specs/` on which the claims rest, made by `tools/trusted.py`. Who believes that they say what is meant, and trusts the toolchain, need read no proof and no",
-           "other definition. Files stand in reading order: each after those whose words it uses. `docs/MODEL.md` leads through them in plain words."]
+    out = ["# What has to be believed", "", *wrapped(
+        "The words of `specs/` on which the claims rest, made by `tools/trusted.py`. Who believes that they say what is "
+        "meant, and trusts the toolchain, need read no proof and no other definition. Files stand in reading order: each "
+        "after those whose words it uses. `docs/MODEL.md` leads through them in plain words.")]
     known = set()
     for title, start in PARTS:
         order, declared = below(files, start)
@@ -148,7 +155,8 @@ def page_text():
             lines = sum(len(files[crate, inside].lines[it]) for it in names)
             out.append(f"| `{crate}/specs/{inside.replace('.', '/')}` | {lines} | {', '.join(f'`{it}`' for it in names)} |")
         types = sorted((crate, file, name) for (crate, file), names in declared.items() for name in names)
-        out += ["", "Types of the code that these name: " + ", ".join(f"`{name}` (`{crate}/src/{file}.rt`)" for crate, file, name in types) + "."]
+        listed = ", ".join(f"`{name}` (`{crate}/src/{file}.rt`)" for crate, file, name in types)
+        out += ["", *wrapped(f"Types of the code that these name: {listed}.")]
     return "\n".join(out) + "\n"
 
 

@@ -21,8 +21,9 @@ const MOST_LOOKS: u32 = 1024;
 // An odd number, by which numbers are mixed.
 const MIX: u64 = 6_364_136_223_846_793_005;
 
-/// Sets further bits of the support to 1 before the last bit of a way, as long as it may have more: unset bits
-/// of a listed pair are 0, so bits that are 1 make it another pair. Whether the defect is shown at the end.
+/// Sets further bits of the support to 1 before the last bit of a way, as long as it may have more: unset
+/// bits of a listed pair are 0, so bits that are 1 make it another pair. Whether the defect is shown at the
+/// end.
 pub(crate) fn set_further(
     aimed: &Aimed<'_>,
     confined: &mut Confined,

@@ -35,8 +35,8 @@ pub record ReportsStoreFault (fault : Option Fault) (before after : ℕ) : Type 
   pub reported : before < after → IsSomeAnd fault IsStoreFault
   pub later : before ≤ after
 
--- A call that reads alone leaves the files as they are and none open. The store's count of faults is as it was
--- where it answers, and rises only where it answers with a fault of the store.
+-- A call that reads alone leaves the files as they are and none open. The store's count of faults is as it
+-- was where it answers, and rises only where it answers with a fault of the store.
 pub record OnlyReads {T : Type 0} (result : Result T Fault) (files_before : Option Files)
     (faults_before : ℕ) (files_after : Option Files) (faults_after : ℕ) (opened_after : Opened) : Type 0 where
   pub quiet : OnOk result (faults_after ≡ faults_before)

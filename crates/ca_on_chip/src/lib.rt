@@ -1,4 +1,5 @@
-//! The commands on a chip that search for nothing: what each finds in its files, and the lines that report it.
+//! The commands on a chip that search for nothing: what each finds in its files, and the lines that report
+//! it.
 #![tactic(auto)]
 
 mod chips;
